@@ -1,0 +1,6 @@
+//! The recoding of a key into signed windows of a random shift, and the check of a coding.
+mod power;
+pub mod rule;
+pub mod sign;
+pub mod sizes;
+pub mod window_rule;
