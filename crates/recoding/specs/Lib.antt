@@ -1,3 +1,6 @@
 pub mod Sizes
 pub mod Signs
 pub mod Rules
+pub mod Tests
+pub mod Draws
+pub mod Keys
