@@ -3,3 +3,5 @@ pub mod Tables
 pub mod Words
 pub mod Keys
 pub mod Draws
+pub mod Windows
+pub mod Equation

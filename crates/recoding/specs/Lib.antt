@@ -2,5 +2,8 @@ pub mod Sizes
 pub mod Signs
 pub mod Rules
 pub mod Tests
-pub mod Draws
 pub mod Keys
+pub mod Draws
+pub mod Digits
+pub mod Windows
+pub mod Codings

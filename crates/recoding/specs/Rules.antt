@@ -32,6 +32,10 @@ remainder k b h s c = h -ℤ signed (c .sign) (pos s) -ℤ pos (2 ^ (k + b)) *�
 abbrev pub digit : (k b : ℕ) (h : ℤ) (s : ℕ) → Choice → ℤ
 digit k b h s c = quotZ (remainder k b h s c) (pos (2 ^ b))
 
+-- what the digit leaves
+abbrev pub rest : (k b : ℕ) (h : ℤ) (s : ℕ) → Choice → ℤ
+rest k b h s c = remainder k b h s c -ℤ pos (2 ^ b) *ℤ digit k b h s c
+
 -- the numbers that a window can have, from -span + 2 ^ k to span - 1
 abbrev pub Reached : (k b : ℕ) → ℤ → Type 0
 Reached k b h = ((negℤ (pos (2 ^ (k + b))) +ℤ pos (2 ^ k)) ≤ℤ h) × (h <ℤ pos (2 ^ (k + b)))
