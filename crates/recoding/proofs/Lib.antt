@@ -4,4 +4,6 @@ pub mod Words
 pub mod Keys
 pub mod Draws
 pub mod Windows
+pub mod Machine
 pub mod Equation
+pub mod Loop

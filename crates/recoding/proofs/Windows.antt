@@ -64,3 +64,43 @@ pub digit-small : (R : Rule) (k b s : ℕ) (h : ℤ) → Lawful R → Widths k b
 digit-small R k b s h L z a r =
     signed-out (R .choose k b h s .sign) (digit k b h s (R .choose k b h s)) (R .lo k b) (R .hi k b)
       (omega (arith, ints, L .above k b s h z a r)) (omega (arith, ints, L .below k b s h z a r)) (L .lo-least k b z) (hi-small R k b L z)
+
+-- a product with a carry, and one with a sign
+times-carry : (n : ℕ) (t : Carry) → (negℤ (pos n) ≤ℤ (pos n *ℤ carryValue t)) × ((pos n *ℤ carryValue t) ≤ℤ pos n)
+times-carry n Down = (omega (arith, ints), omega (arith, ints))
+times-carry n Zero = (omega (arith, ints), omega (arith, ints))
+times-carry n Up = (omega (arith, ints), omega (arith, ints))
+
+pub signed-small : (g : Sign) (n : ℕ) → (negℤ (pos n) ≤ℤ signed g (pos n)) × (signed g (pos n) ≤ℤ pos n)
+signed-small Plus n = (omega (arith, ints), omega (arith, ints))
+signed-small Minus n = (omega (arith, ints), omega (arith, ints))
+
+-- the parts of a remainder, and the remainder itself, are small
+pub record Small (k b s : ℕ) (h : ℤ) (c : Choice) : Type 0 where
+  pub power-most : 2 ^ (k + b) ≤ 2 ^ 36
+  pub shift-least : negℤ (pos (2 ^ 32)) ≤ℤ signed (c .sign) (pos s)
+  pub shift-most : signed (c .sign) (pos s) ≤ℤ pos (2 ^ 32)
+  pub carry-least : negℤ (pos (2 ^ 36)) ≤ℤ (pos (2 ^ (k + b)) *ℤ carryValue (c .carry))
+  pub carry-most : (pos (2 ^ (k + b)) *ℤ carryValue (c .carry)) ≤ℤ pos (2 ^ 36)
+  pub number-least : negℤ (pos (2 ^ 36)) ≤ℤ h
+  pub number-most : h ≤ℤ pos (2 ^ 36)
+
+pub remainder-small : (k b s : ℕ) (h : ℤ) (c : Choice) → Widths k b → s < 2 ^ 32 → Reached k b h → Small k b s h c
+remainder-small k b s h c z hs r =
+    let x : k + b ≤ 36 = omega arith in
+    let p : 2 ^ (k + b) ≤ 2 ^ 36 = pow-mono x in
+    let g = signed-small (c .sign) s in
+    let t = times-carry (2 ^ (k + b)) (c .carry) in
+    record
+      { power-most = p
+      ; shift-least = omega (arith, ints)
+      ; shift-most = omega (arith, ints)
+      ; carry-least = omega (arith, ints)
+      ; carry-most = omega (arith, ints)
+      ; number-least = omega (arith, ints, r .0)
+      ; number-most = omega (arith, ints, r .1) }
+
+-- a product of a power and a number that is small
+pub times-bound : (n m r : ℕ) (z : ℤ) → n ≤ m → negℤ (pos r) ≤ℤ z → z ≤ℤ pos r → (negℤ (pos (m * r)) ≤ℤ (pos n *ℤ z)) × ((pos n *ℤ z) ≤ℤ pos (m * r))
+times-bound n m r (pos a) p l h = let q : n * a ≤ m * r = mul-le n a m r p (omega (arith, ints)) in (omega (arith, ints), omega (arith, ints))
+times-bound n m r (negsuc a) p l h = let q : n * suc a ≤ m * r = mul-le n (suc a) m r p (omega (arith, ints)) in (omega (arith, ints), omega (arith, ints))

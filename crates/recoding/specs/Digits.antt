@@ -33,3 +33,8 @@ carried t (d ∷ ds) = record { value = d .value +ℤ carryValue t; sign = d .si
 -- words that hold no digit any more
 abbrev pub zeros : ℕ → List ℤ
 zeros n = replicate n (pos 0)
+
+-- a carry into the lowest of some words: the digit that it holds is raised
+abbrev pub raised : Carry → List ℤ → List ℤ
+raised t [] = []
+raised t (w ∷ ws) = (w +ℤ pos 2 *ℤ carryValue t) ∷ ws

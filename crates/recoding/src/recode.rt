@@ -1,0 +1,59 @@
+//! The recoding of a key.
+ghost use mathlib.Core.Path.{_≡_};
+ghost use mathlib.Core.List.{_∷_, map};
+ghost use Prim.Native.Nat.{_+_, _^_, _<_, _≤_};
+ghost use lib.IntN.{pos, negℤ};
+ghost use lib.ListN.{length, getD, drop};
+ghost use lib.Signed.{_≤ℤ_};
+ghost use Rattle.recoding.specs.Digits.{encoded, raised};
+ghost use Rattle.recoding.specs.Keys.{scalar, half};
+ghost use Rattle.recoding.specs.Rules.{Admitted};
+ghost use Rattle.recoding.specs.Sizes.{keyBits};
+ghost use Rattle.recoding.specs.Windows.{recoding};
+use crate::key::bits_from;
+use crate::rule::SignRule;
+use crate::sign::Carry;
+use crate::sizes::Sizes;
+use crate::window::cut;
+use crate::window::join;
+
+// The words of all windows of the key's half, from the top one down, and the correction. The bits
+// of the half above all windows stand for what a window above the top one would leave.
+fn recode_windows<R: SignRule>(rule: &R, sizes: Sizes, key: &[u32], s: u32, words: &mut [i32]) -> i32
+    requires count { ⌜ length (now words) ≡ sizes .m ⌝ }
+    requires admitted { ⌜ Admitted (R·SignRule .rule (now rule)) (sizes .k) (sizes .b) s ⌝ }
+    requires key { ⌜ scalar (now key) < 2 ^ keyBits sizes ⌝ }
+    ensures words { λ _. ⌜ now (words .exit) ≡ map encoded (recoding (R·SignRule .rule (now (rule .entry))) sizes s (half (now (key .entry))) .digits) ⌝ }
+    ensures correction { λ r. ⌜ r ≡ recoding (R·SignRule .rule (now (rule .entry))) sizes s (half (now (key .entry))) .left ⌝ }
+{
+    let width = sizes.window_width();
+    let count = words.len();
+    let mut left = bits_from(key, width as usize * count + 1, sizes.draw_width()) as i64;
+    for i in (0..count).rev() {
+        let bits = bits_from(key, width as usize * i + 1, width);
+        let window = cut(rule, sizes, join(sizes, left, bits), s);
+        place(words, i, window.digit.encode(), window.carry);
+        left = window.left;
+    }
+    left as i32
+}
+
+// Writes a word, and the carry into the word above.
+fn place(words: &mut [i32], i: usize, word: i32, carry: Carry)
+    requires inside { ⌜ i < length (now words) ⌝ }
+    requires above { ⌜ negℤ (pos (2 ^ 22)) ≤ℤ getD (now words) (i + 1) (pos 0) ⌝ ∗ ⌜ getD (now words) (i + 1) (pos 0) ≤ℤ pos (2 ^ 22) ⌝ }
+    ensures { λ _. ⌜ drop i (now (words .exit)) ≡ word ∷ raised carry (drop (i + 1) (now (words .entry))) ⌝ }
+{
+    raise(words, i + 1, carry);
+    words[i] = word;
+}
+
+// Adds a carry to the digit in the word at i, if there is one.
+fn raise(words: &mut [i32], i: usize, carry: Carry)
+    requires { ⌜ negℤ (pos (2 ^ 22)) ≤ℤ getD (now words) i (pos 0) ⌝ ∗ ⌜ getD (now words) i (pos 0) ≤ℤ pos (2 ^ 22) ⌝ }
+    ensures { λ _. ⌜ drop i (now (words .exit)) ≡ raised carry (drop i (now (words .entry))) ⌝ }
+{
+    if i < words.len() {
+        words[i] += 2 * carry.value();
+    }
+}
