@@ -7,3 +7,4 @@ pub mod Windows
 pub mod Machine
 pub mod Equation
 pub mod Loop
+pub mod Tests

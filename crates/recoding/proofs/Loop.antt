@@ -6,13 +6,13 @@ use lib.ListN.{length, getD, drop}
 use lib.Pow.{pow-pos, pow-mono, pow-add}
 use lib.Signed.{_≤ℤ_, _<ℤ_}
 use mathlib.Core.Bool.{cond}
-use mathlib.Core.List.{List, [], _∷_, map}
+use mathlib.Core.List.{List, [], _∷_, _++_, map}
 use mathlib.Core.Path.{_≡_, refl, sym, ap, ap₂, _∙_, subst}
 use native.Mathlib.Nat.{mod-eq-of-lt, mod-lt, mul-comm, sub-self, le-trans, add-zero, sub-zero, mul-zero, div-one}
 use native.Mathlib.Numerals.{sub-one}
 use native.Mathlib.Omega.{arith}
 use Rattle.std.proofs.shelf.Bits.{shr-shr, shr-below}
-use Rattle.std.proofs.shelf.Lists.{getD-drop}
+use Rattle.std.proofs.shelf.Lists.{getD-drop, take-at}
 use Rattle.std.proofs.shelf.Signed.{ints}
 use Rattle.recoding.specs.declared.digit.Digit.{Digit}
 use Rattle.recoding.specs.declared.sign.Carry.{Carry}
@@ -20,7 +20,7 @@ use Rattle.recoding.specs.declared.sign.Choice.{Choice}
 use Rattle.recoding.specs.declared.sign.Sign.{Sign}
 use Rattle.recoding.specs.declared.sign.Sign.the-variants.{Plus, Minus}
 use Rattle.recoding.specs.declared.sizes.Sizes.{Sizes}
-use Rattle.recoding.specs.Codings.{total, Within, Coding}
+use Rattle.recoding.specs.Codings.{total, Within, Coding, digitsIn}
 use Rattle.recoding.specs.Digits.{encoded, decoded, carried, raised}
 use Rattle.recoding.specs.Keys.{bitsAt}
 use Rattle.recoding.specs.Rules.{Rule, Lawful, Admitted, Reached, digit, rest}
@@ -172,7 +172,7 @@ module _ (R : Rule) (z : Sizes) (s d : ℕ) (L : Lawful R) (a : Admitted R (z .k
   finish (suc i) ws left h p q = elim h [ ]
 
   -- what the steps give is a coding of the half
-  pub coded : Coding R z (d / 2) s (recoding R z s (d / 2) .left) (recoding R z s (d / 2) .digits)
+  coded : Coding R z (d / 2) s (recoding R z s (d / 2) .left) (recoding R z s (d / 2) .digits)
   coded = subst (λ (x : State). Coding R z (d / 2) s (x .left) (x .digits)) (sym all-windows) (record
       { draw-bits = a .0
       ; admitted = a .1
@@ -185,3 +185,12 @@ module _ (R : Rule) (z : Sizes) (s d : ℕ) (L : Lawful R) (a : Admitted R (z .k
       at = good-at 0 zero-le
       whole : d / 2 / 2 ^ (z .k * 0) ≡ d / 2
       whole = rw (mul-zero (z .k)) (div-one (d / 2))
+
+  -- the words of an accepted recoding are a coding of the half
+  pub coding-in : (ws tail : List ℤ) (c : ℤ) → length ws ≡ z .m → ws ≡ map encoded (recoding R z s (d / 2) .digits) → c ≡ recoding R z s (d / 2) .left →
+      Coding R z (d / 2) s c (digitsIn z (ws ++ tail))
+  coding-in ws tail c n e f =
+      subst (λ (x : ℤ). Coding R z (d / 2) s x (digitsIn z (ws ++ tail))) (sym f) (subst (λ (ds : List Digit). Coding R z (d / 2) s (recoding R z s (d / 2) .left) ds) (sym held) coded)
+    where
+      held : digitsIn z (ws ++ tail) ≡ recoding R z s (d / 2) .digits
+      held = ap (map decoded) (take-at ws tail (z .m) n ∙ e) ∙ decode-all (recoding R z s (d / 2) .digits)

@@ -1,4 +1,5 @@
 //! The recoding of a key into signed windows of a random shift, and the check of a coding.
+pub mod check;
 pub mod coded;
 pub mod digit;
 pub mod draw;

@@ -5,17 +5,54 @@ ghost use Prim.Native.Nat.{_+_, _^_, _<_, _≤_};
 ghost use lib.IntN.{pos, negℤ};
 ghost use lib.ListN.{length, getD, drop};
 ghost use lib.Signed.{_≤ℤ_};
+ghost use Rattle.recoding.specs.Codings.{recodeRefusal, Recoded};
 ghost use Rattle.recoding.specs.Digits.{encoded, raised};
 ghost use Rattle.recoding.specs.Keys.{scalar, half};
 ghost use Rattle.recoding.specs.Rules.{Admitted};
 ghost use Rattle.recoding.specs.Sizes.{keyBits};
+ghost use Rattle.recoding.specs.Tests.{Tested};
 ghost use Rattle.recoding.specs.Windows.{recoding};
+use crate::check::check_lent;
+use crate::coded::Coded;
+use crate::digit::wipe;
+use crate::draw::Draw;
 use crate::key::bits_from;
 use crate::rule::SignRule;
 use crate::sign::Carry;
 use crate::sizes::Sizes;
 use crate::window::cut;
 use crate::window::join;
+use common::refusal::Refusal;
+
+/// Recodes the key by the draw: fills the first words with the digits of its windows, touches no
+/// other, and spends the draw in the coded state. Refuses a key (4, 5) or too few words (6) or a
+/// draw of another width or that the rule does not admit (10), in this order; then the draw comes
+/// back and all words are zero.
+pub fn recode<R: SignRule>(rule: &R, sizes: Sizes, key: &[u32], draw: Draw, words: &mut [i32]) -> Result<Coded, (Refusal, Draw)>
+    ensures { λ r. ⌜ Recoded (R·SignRule .rule (now (rule .entry))) sizes (now (key .entry)) draw (now (words .entry)) r (now (words .exit)) ⌝ }
+{
+    if let Err(refusal) = check_recoding(rule, sizes, key, words.len(), &draw) {
+        wipe(words);
+        return Err((refusal, draw));
+    }
+    let count = sizes.windows() as usize;
+    let correction = recode_windows(rule, sizes, key, draw.value(), &mut words[0..count]);
+    Ok(Coded { draw, correction })
+}
+
+// The tests of a recoding, in their order.
+fn check_recoding<R: SignRule>(rule: &R, sizes: Sizes, key: &[u32], words: usize, draw: &Draw) -> Result<(), Refusal>
+    ensures { λ r. ⌜ Tested (recodeRefusal (R·SignRule .rule (now (rule .entry))) sizes (now (key .entry)) words (now (draw .entry))) r ⌝ }
+{
+    check_lent(sizes, key, words)?;
+    if draw.width() != sizes.draw_width() {
+        return Err(Refusal::UnfitDraw);
+    }
+    if !rule.admits(sizes, draw.value()) {
+        return Err(Refusal::UnfitDraw);
+    }
+    Ok(())
+}
 
 // The words of all windows of the key's half, from the top one down, and the correction. The bits
 // of the half above all windows stand for what a window above the top one would leave.
