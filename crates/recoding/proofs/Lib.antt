@@ -8,3 +8,5 @@ pub mod Machine
 pub mod Equation
 pub mod Loop
 pub mod Tests
+pub mod Limits
+pub mod Checking

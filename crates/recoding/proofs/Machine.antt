@@ -2,17 +2,16 @@
 use Prim.Native.Nat.{ℕ, suc, _+_, _*_, _/_, _^_, _<_, _≤_}
 use lib.IntN.{ℤ, pos, negsuc, negℤ, _+ℤ_, _-ℤ_, _*ℤ_}
 use lib.Pow.{pow-mono, pow-pos}
-use lib.Signed.{quotZ, remZ, _≤ℤ_, _<ℤ_}
+use lib.Signed.{quotZ, _≤ℤ_, _<ℤ_}
 use mathlib.Core.Path.{_≡_, refl, sym, ap, ap₂, _∙_}
 use mir.Syntax.{w64}
 use mir.Val.{SFits, toZ, ofZ}
 use native.Mathlib.Omega.{arith}
 use Rattle.std.proofs.shelf.Signed.{ints, toZ-ofZ}
-use Rattle.recoding.proofs.Quotients.{quot-rem, rem-small}
 use Rattle.recoding.specs.declared.sign.Choice.{Choice}
-use Rattle.recoding.specs.Rules.{remainder}
+use Rattle.recoding.specs.Rules.{remainder, digit, rest}
 use Rattle.recoding.specs.Signs.{signed, carryValue}
-use Rattle.recoding.proofs.Windows.{times-bound, Small}
+use Rattle.recoding.proofs.Windows.{times-bound, Small, rest-small}
 
 -- z is from -n to n
 abbrev pub About : ℕ → ℤ → Type 0
@@ -27,23 +26,25 @@ pub differences : (h a b : ℤ) → About (2 ^ 36) h → About (2 ^ 32) a → Ab
     SFits w64 (word h -ℤ word a) × SFits w64 (word (word h -ℤ word a) -ℤ word b) × (word (word (word h -ℤ word a) -ℤ word b) ≡ h -ℤ a -ℤ b)
 differences h a b p q r = (omega (arith, ints), omega (arith, ints), omega (arith, ints))
 
--- a power times z and some bits
-pub record ScaledSum (n bits : ℕ) (P z : ℤ) : Type 0 where
-  pub product : SFits w64 (word P *ℤ word z)
-  pub sum : SFits w64 (word (word P *ℤ word z) +ℤ toZ w64 bits)
-  pub is : word (word (word P *ℤ word z) +ℤ toZ w64 bits) ≡ pos n *ℤ z +ℤ pos bits
+-- a, t and g less some bits
+pub sums : (a t g : ℤ) (bits : ℕ) → About (2 ^ 61) a → About (2 ^ 61) t → About (2 ^ 32) g → bits < 2 ^ 32 →
+    SFits w64 (word (word a +ℤ word t) +ℤ word g) × SFits w64 (word (word (word a +ℤ word t) +ℤ word g) -ℤ toZ w64 bits)
+    × (word (word (word (word a +ℤ word t) +ℤ word g) -ℤ toZ w64 bits) ≡ a +ℤ t +ℤ g -ℤ pos bits)
+sums a t g bits p q r h = (omega (arith, ints, p, q, r), omega (arith, ints, p, q, r), omega (arith, ints, p, q, r))
 
-pub scaled-sum : (n bits : ℕ) (P z : ℤ) → P ≡ pos n → n ≤ 64 → bits < 2 ^ 32 → About (2 ^ 30) z → ScaledSum n bits P z
-scaled-sum n bits P z e l f p =
-    let t = times-bound n 64 (2 ^ 30) z l (p .0) (p .1) in
+-- a power times z
+pub record Scaled (n : ℕ) (P z : ℤ) : Type 0 where
+  pub fits : SFits w64 (word P *ℤ word z)
+  pub is : word (word P *ℤ word z) ≡ pos n *ℤ z
+  pub about : About (2 ^ 61) (pos n *ℤ z)
+
+pub scaled-is : (n : ℕ) (P z : ℤ) → P ≡ pos n → n ≤ 2 ^ 30 → About (2 ^ 31) z → Scaled n P z
+scaled-is n P z e l p =
+    let t = times-bound n (2 ^ 30) (2 ^ 31) z l (p .0) (p .1) in
     let g0 : word P ≡ pos n = ap word e ∙ toZ-ofZ w64 (pos n) (omega (arith, ints)) in
-    let g1 = toZ-ofZ w64 z (omega (arith, ints)) in
+    let g1 = toZ-ofZ w64 z (omega (arith, ints, p)) in
     let s : SFits w64 (pos n *ℤ z) = omega (arith, ints) in
-    let g2 = toZ-ofZ w64 (pos n *ℤ z) s in
-    record
-      { product = rw (g0, g1) s
-      ; sum = rw (g0, g1, g2) (omega (arith, ints))
-      ; is = rw (g0, g1, g2) (omega (arith, ints)) }
+    record { fits = rw (g0, g1) s; is = rw (g0, g1) (toZ-ofZ w64 (pos n *ℤ z) s); about = t }
 
 -- the remainder of a window, from its parts as they were computed
 pub record Remains (k b s : ℕ) (h g t : ℤ) (c : Choice) : Type 0 where
@@ -63,25 +64,26 @@ remains k b s w d h P g t c S ew ed eP eg et =
       ; is = rw (eg, u) (v .2)
       ; about = (omega (arith, ints, S), omega (arith, ints, S)) }
 
--- the quotient of r by the unit, and what it leaves
-pub record Parted (b : ℕ) (r H : ℤ) : Type 0 where
-  pub quotient : word (quotZ (word r) (word H)) ≡ quotZ r (pos (2 ^ b))
-  pub fits : SFits w64 (word r -ℤ word (word H *ℤ word (quotZ (word r) (word H))))
-  pub left : word (word r -ℤ word (word H *ℤ word (quotZ (word r) (word H)))) ≡ r -ℤ pos (2 ^ b) *ℤ quotZ r (pos (2 ^ b))
+-- the remainder that was computed is that of the rule's answer F
+pub remainder-by : (k b s : ℕ) (h r : ℤ) (F : ℤ → Choice) (x : Choice) → SFits w64 h → x ≡ F (word h) → r ≡ remainder k b (word h) s x → r ≡ remainder k b h s (F h)
+remainder-by k b s h r F x f e i = let g = toZ-ofZ w64 h f in i ∙ ap₂ (λ (y : ℤ) (c : Choice). remainder k b y s c) g (e ∙ ap F g)
 
-pub parted : (b w : ℕ) (r H : ℤ) → H ≡ pos (2 ^ w) → w ≡ b → b ≤ 30 → About (2 ^ 40) r → About (2 ^ 20) (quotZ r (pos (2 ^ b))) → Parted b r H
-parted b w r H eH ew lb p d =
-    let m : 2 ^ b ≤ 2 ^ 30 = pow-mono lb in
-    let e : H ≡ pos (2 ^ b) = eH ∙ ap (λ (n : ℕ). pos (2 ^ n)) ew in
-    let n = line r (pos (2 ^ b) *ℤ quotZ r (pos (2 ^ b))) (remZ r (pos (2 ^ b))) (2 ^ b) (quot-rem r (2 ^ b)) (rem-small r (2 ^ b) (pow-pos b)) m p in
-    let g0 = toZ-ofZ w64 r (omega (arith, ints, p)) in
-    let g1 : word H ≡ pos (2 ^ b) = ap word e ∙ toZ-ofZ w64 (pos (2 ^ b)) (omega (arith, ints)) in
-    let g2 = toZ-ofZ w64 (quotZ r (pos (2 ^ b))) (omega (arith, ints, d)) in
-    let g3 = toZ-ofZ w64 (pos (2 ^ b) *ℤ quotZ r (pos (2 ^ b))) (n .0) in
-    record
-      { quotient = rw (g0, g1) g2
-      ; fits = rw (g0, g1, g2, g3) (n .1)
-      ; left = rw (g0, g1, g2, g3) (toZ-ofZ w64 (r -ℤ pos (2 ^ b) *ℤ quotZ r (pos (2 ^ b))) (n .1)) }
-  where
-    line : (r p x : ℤ) (u : ℕ) → r ≡ p +ℤ x → (negℤ (pos u) <ℤ x) × (x <ℤ pos u) → u ≤ 2 ^ 30 → About (2 ^ 40) r → SFits w64 p × SFits w64 (r -ℤ p)
-    line r p x u e a c l = (omega (arith, ints, a, l), omega (arith, ints, a, l))
+-- a window's digit and what it leaves, from its remainder r and the unit H as they were computed
+module _ (k b s w : ℕ) (h r H : ℤ) (c : Choice) (ew : w ≡ b) (eH : H ≡ pos (2 ^ w)) (lb : b ≤ 30) (er : r ≡ remainder k b h s c) (ar : About (2 ^ 40) r) (ad : About (2 ^ 20) (digit k b h s c)) where
+  pub digit-is : word (quotZ (word r) (word H)) ≡ digit k b h s c
+  digit-is =
+      let m : 2 ^ b ≤ 2 ^ 30 = pow-mono lb in
+      let g0 = toZ-ofZ w64 r (omega (arith, ints, ar)) in
+      let g1 : word H ≡ pos (2 ^ b) = ap word (eH ∙ ap (λ (n : ℕ). pos (2 ^ n)) ew) ∙ toZ-ofZ w64 (pos (2 ^ b)) (omega (arith, ints)) in
+      ap₂ (λ (x y : ℤ). word (quotZ x y)) (g0 ∙ er) g1 ∙ toZ-ofZ w64 (digit k b h s c) (omega (arith, ints, ad))
+
+  line : (r p x : ℤ) (u : ℕ) → r -ℤ p ≡ x → (negℤ (pos u) <ℤ x) × (x <ℤ pos u) → u ≤ 2 ^ 30 → About (2 ^ 40) r → SFits w64 p × SFits w64 (r -ℤ p)
+  line r p x u e a c l = (omega (arith, ints, a, l), omega (arith, ints, a, l))
+
+  pub left-is : (t : ℤ) → t ≡ pos (2 ^ w) *ℤ word (quotZ (word r) (word H)) → SFits w64 (word r -ℤ word t) × (word (word r -ℤ word t) ≡ rest k b h s c)
+  left-is t et =
+      let e : t ≡ pos (2 ^ b) *ℤ digit k b h s c = et ∙ ap₂ (λ (n : ℕ) (y : ℤ). pos (2 ^ n) *ℤ y) ew digit-is in
+      let n = line r (pos (2 ^ b) *ℤ digit k b h s c) (rest k b h s c) (2 ^ b) (ap (λ (x : ℤ). x -ℤ pos (2 ^ b) *ℤ digit k b h s c) er) (rest-small k b s h c) (pow-mono lb) ar in
+      let g0 = toZ-ofZ w64 r (omega (arith, ints, ar)) in
+      let g1 : word t ≡ pos (2 ^ b) *ℤ digit k b h s c = ap word e ∙ toZ-ofZ w64 (pos (2 ^ b) *ℤ digit k b h s c) (n .0) in
+      (rw (g0, g1) (n .1), rw (g0, g1) (toZ-ofZ w64 _ (n .1) ∙ ap (λ (x : ℤ). x -ℤ pos (2 ^ b) *ℤ digit k b h s c) er))

@@ -4,7 +4,7 @@ use mathlib.Core.List.{List, [], _∷_, _++_, map}
 use mathlib.Core.Path.{_≡_}
 use Prim.Native.Nat.{ℕ, zero, suc, _+_, _*_, _^_, _<_}
 use lib.Dec.{ltb}
-use lib.IntN.{ℤ, pos, negℤ, _+ℤ_, _*ℤ_}
+use lib.IntN.{ℤ, pos, negℤ, _+ℤ_, _-ℤ_, _*ℤ_}
 use lib.ListN.{length, take, drop}
 use lib.Signed.{_≤ℤ_, _<ℤ_}
 use Rattle.common.specs.declared.refusal.Refusal.{Refusal}
@@ -49,6 +49,10 @@ pub record Coding (R : Rule) (z : Sizes) (e s : ℕ) (c : ℤ) (digits : List Di
   pub limits : Within (R .lo (z .k) (z .b)) (R .hi (z .k) (z .b)) digits
   -- e is the correction and the sum of the digits
   pub equation : pos e ≡ c +ℤ total (z .k) (z .b) s 0 digits
+
+-- what a window from the bottom up comes to: what is carried into it, its digit and the signed draw, less its bits of e
+abbrev pub reached : (b s bits : ℕ) → ℤ → Digit → ℤ
+reached b s bits carry d = carry +ℤ pos (2 ^ b) *ℤ d .value +ℤ signed (d .sign) (pos s) -ℤ pos bits
 
 -- the digits in the first m words
 abbrev pub digitsIn : Sizes → List ℤ → List Digit

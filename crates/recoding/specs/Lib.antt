@@ -1,4 +1,5 @@
 pub mod Sizes
+pub mod Powers
 pub mod Signs
 pub mod Rules
 pub mod Tests

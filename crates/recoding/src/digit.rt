@@ -6,6 +6,7 @@ ghost use lib.ListN.{length};
 ghost use lib.Signed.{_≤ℤ_};
 ghost use denote.Ref.{name};
 ghost use Rattle.recoding.specs.Digits.{encoded, decoded, zeros};
+ghost use Rattle.recoding.specs.Signs.{signed};
 use crate::sign::Sign;
 
 /// The digit of a window, and its sign.
@@ -22,6 +23,16 @@ impl Digit {
     {
         let sign = if word.rem_euclid(2) > 0 { Sign::Minus } else { Sign::Plus };
         Digit { value: word.div_euclid(2), sign }
+    }
+
+    /// The digit times its sign.
+    pub fn signed(self) -> i64
+        ensures { λ r. ⌜ r ≡ signed (self .sign) (self .value) ⌝ }
+    {
+        match self.sign {
+            Sign::Plus => self.value as i64,
+            Sign::Minus => -(self.value as i64),
+        }
     }
 
     // The word that holds the digit.

@@ -8,6 +8,7 @@ ghost use Rattle.recoding.specs.Signs.{signed, carryValue};
 ghost use Rattle.recoding.specs.Windows.{below};
 use crate::digit::Digit;
 use crate::power::power;
+use crate::power::scaled;
 use crate::rule::SignRule;
 use crate::sign::Carry;
 use crate::sign::Choice;
@@ -33,13 +34,13 @@ pub(crate) fn cut<R: SignRule>(rule: &R, sizes: Sizes, h: i64, s: u32) -> Window
     ensures left { λ r. ⌜ r .left ≡ rest (sizes .k) (sizes .b) h s (R·SignRule .rule (now (rule .entry)) .choose (sizes .k) (sizes .b) h s) ⌝ }
 {
     let choice = rule.choose(sizes, h, s);
-    let unit = power(sizes.draw_width());
+    let width = sizes.draw_width();
     let r = remain(sizes, h, s, choice);
-    let value = r / unit;
+    let value = r / power(width);
     Window {
         digit: Digit { value: value as i32, sign: choice.sign },
         carry: choice.carry,
-        left: r - unit * value,
+        left: r - scaled(width, value),
     }
 }
 
@@ -81,5 +82,5 @@ pub(crate) fn join(sizes: Sizes, left: i64, bits: u32) -> i64
     requires { ⌜ negℤ (pos (2 ^ 30)) ≤ℤ left ⌝ ∗ ⌜ left ≤ℤ pos (2 ^ 30) ⌝ }
     ensures { λ r. ⌜ r ≡ below (sizes .k) bits left ⌝ }
 {
-    power(sizes.window_width()) * left + bits as i64
+    scaled(sizes.window_width(), left) + bits as i64
 }

@@ -1,57 +1,46 @@
 use Prim.Native.Nat.{ℕ, _^_}
-use lib.IntN.{ℤ, pos, _-ℤ_, _*ℤ_}
-use lib.Signed.{quotZ}
-use mathlib.Core.Path.{_≡_, ap, sym, _∙_, subst}
+use lib.IntN.{ℤ}
+use mathlib.Core.Path.{_≡_, ap, _∙_}
 use mir.Syntax.{w32, w64}
 use mir.Val.{SFits}
 use native.Mathlib.Omega.{arith}
 use Rattle.std.proofs.shelf.Signed.{ints, toZ-ofZ}
 use Rattle.recoding.specs.declared.sign.Choice.{Choice}
-use Rattle.recoding.specs.Rules.{remainder, digit}
-use Rattle.recoding.proofs.Machine.{About, Parted, parted}
+use Rattle.recoding.proofs.Machine.{remainder-by, digit-is, left-is}
 use Rattle.recoding.proofs.Windows.{digit-small}
-use Rattle.recoding.proofs.window.cut.Given as given
 use Rattle.recoding.proofs.window.cut.Needs as need
 
--- the rule's answer
-chosen : (g : given.Over) (c : need.After-remain-r g) → Choice
-chosen g c = g .R·SignRule .rule (c .args .rule .now) .choose (c .args .sizes .k) (c .args .sizes .b) (c .args .h) (c .args .s)
-
--- the remainder that was computed is that of the rule's answer
-remainder-by : (g : given.Over) (c : need.After-remain-r g) → c .remain-r .result ≡ remainder (c .args .sizes .k) (c .args .sizes .b) (c .args .h) (c .args .s) (chosen g c)
-unfolding chosen
-remainder-by g c =
-    let f : SFits w64 (c .args .h) = c .fits .h in
-    let e = simp toZ-ofZ at (c .choose-choice .ensures) in
-    let r = simp toZ-ofZ at (c .remain-r .ensures .is) in
-    r ∙ ap (remainder (c .args .sizes .k) (c .args .sizes .b) (c .args .h) (c .args .s)) e
-
--- its digit is small
-digit-about : (g : given.Over) (c : need.After-remain-r g) → About (2 ^ 20) (quotZ (c .remain-r .result) (pos (2 ^ c .args .sizes .b)))
-unfolding chosen
-digit-about g c =
-    subst (λ (z : ℤ). About (2 ^ 20) (quotZ z (pos (2 ^ c .args .sizes .b)))) (sym (remainder-by g c))
-      (digit-small (g .R·SignRule .rule (c .args .rule .now)) (c .args .sizes .k) (c .args .sizes .b) (c .args .s) (c .args .h) (g .R·SignRule·met .lawful (c .args .rule .now)) (omega arith, omega arith, omega arith, omega arith) (c .pre .admitted) (c .pre .reached))
-
-parts : (g : given.Over) (c : need.After-remain-r g) → Parted (c .args .sizes .b) (c .remain-r .result) (c .power-unit .result)
-parts g c =
-    parted (c .args .sizes .b) (c .draw-width .result) (c .remain-r .result) (c .power-unit .result) (c .power-unit .ensures) (c .draw-width .ensures) (c .args .sizes .«b_most») (c .remain-r .ensures .least, c .remain-r .ensures .most) (digit-about g c)
-
 pub cast-result : need.cast-result
-cast-result g c = omega (arith, ints, parts g c .quotient, digit-about g c)
+cast-result g c =
+    let z = c .args .sizes in
+    let F : ℤ → Choice = λ h. g .R·SignRule .rule (c .args .rule .now) .choose (z .k) (z .b) h (c .args .s) in
+    let e = remainder-by (z .k) (z .b) (c .args .s) (c .args .h) (c .remain-r .result) F (c .choose-choice .result) (c .fits .h) (c .choose-choice .ensures) (c .remain-r .ensures .is) in
+    let d = digit-small (g .R·SignRule .rule (c .args .rule .now)) (z .k) (z .b) (c .args .s) (c .args .h) (g .R·SignRule·met .lawful (c .args .rule .now)) (omega arith, omega arith, omega arith, omega arith) (c .pre .admitted) (c .pre .reached) in
+    let q = digit-is (z .k) (z .b) (c .args .s) (c .draw-width-width .result) (c .args .h) (c .remain-r .result) (c .power .result) (F (c .args .h)) (c .draw-width-width .ensures) (c .power .ensures) (z .«b_most») e (c .remain-r .ensures .least, c .remain-r .ensures .most) d in
+    omega (arith, ints, q, d)
+
+pub scaled-requires : need.scaled-requires
+scaled-requires g c κs = let f = cast-result g c in record { width = omega arith; small = (omega (arith, ints, f), omega (arith, ints, f)) }
 
 pub sub-result : need.sub-result
-sub-result g c = parts g c .fits
+sub-result g c =
+    let z = c .args .sizes in
+    let F : ℤ → Choice = λ h. g .R·SignRule .rule (c .args .rule .now) .choose (z .k) (z .b) h (c .args .s) in
+    let e = remainder-by (z .k) (z .b) (c .args .s) (c .args .h) (c .remain-r .result) F (c .choose-choice .result) (c .fits .h) (c .choose-choice .ensures) (c .remain-r .ensures .is) in
+    let d = digit-small (g .R·SignRule .rule (c .args .rule .now)) (z .k) (z .b) (c .args .s) (c .args .h) (g .R·SignRule·met .lawful (c .args .rule .now)) (omega arith, omega arith, omega arith, omega arith) (c .pre .admitted) (c .pre .reached) in
+    left-is (z .k) (z .b) (c .args .s) (c .draw-width-width .result) (c .args .h) (c .remain-r .result) (c .power .result) (F (c .args .h)) (c .draw-width-width .ensures) (c .power .ensures) (z .«b_most») e (c .remain-r .ensures .least, c .remain-r .ensures .most) d (c .scaled .result) (c .scaled .ensures .is) .0
 
 pub returns : need.returns
-unfolding chosen
 returns g c =
-    let f : SFits w64 (c .args .h) = c .fits .h in
-    let e = simp toZ-ofZ at (c .choose-choice .ensures) in
-    let d = digit-about g c in
-    let k : SFits w32 (quotZ (c .remain-r .result) (pos (2 ^ c .args .sizes .b))) = omega (arith, ints, d) in
+    let z = c .args .sizes in
+    let F : ℤ → Choice = λ h. g .R·SignRule .rule (c .args .rule .now) .choose (z .k) (z .b) h (c .args .s) in
+    let e = remainder-by (z .k) (z .b) (c .args .s) (c .args .h) (c .remain-r .result) F (c .choose-choice .result) (c .fits .h) (c .choose-choice .ensures) (c .remain-r .ensures .is) in
+    let d = digit-small (g .R·SignRule .rule (c .args .rule .now)) (z .k) (z .b) (c .args .s) (c .args .h) (g .R·SignRule·met .lawful (c .args .rule .now)) (omega arith, omega arith, omega arith, omega arith) (c .pre .admitted) (c .pre .reached) in
+    let q = digit-is (z .k) (z .b) (c .args .s) (c .draw-width-width .result) (c .args .h) (c .remain-r .result) (c .power .result) (F (c .args .h)) (c .draw-width-width .ensures) (c .power .ensures) (z .«b_most») e (c .remain-r .ensures .least, c .remain-r .ensures .most) d in
+    let l = left-is (z .k) (z .b) (c .args .s) (c .draw-width-width .result) (c .args .h) (c .remain-r .result) (c .power .result) (F (c .args .h)) (c .draw-width-width .ensures) (c .power .ensures) (z .«b_most») e (c .remain-r .ensures .least, c .remain-r .ensures .most) d (c .scaled .result) (c .scaled .ensures .is) in
+    let x = c .choose-choice .ensures ∙ ap F (toZ-ofZ w64 (c .args .h) (c .fits .h)) in
     record
-      { value = rw (parts g c .quotient) (toZ-ofZ w32 _ k ∙ ap (λ (z : ℤ). quotZ z (pos (2 ^ c .args .sizes .b))) (remainder-by g c))
-      ; sign = ap (λ (x : Choice). x .sign) e
-      ; carry = ap (λ (x : Choice). x .carry) e
-      ; left = parts g c .left ∙ ap (λ (z : ℤ). z -ℤ pos (2 ^ c .args .sizes .b) *ℤ quotZ z (pos (2 ^ c .args .sizes .b))) (remainder-by g c) }
+      { value = rw q (toZ-ofZ w32 _ (omega (arith, ints, d)))
+      ; sign = ap (λ (y : Choice). y .sign) x
+      ; carry = ap (λ (y : Choice). y .carry) x
+      ; left = l .1 }

@@ -1,0 +1,46 @@
+use Prim.Native.Nat.{ℕ, _^_, _<_}
+use borrow.Author.Needs.{needs}
+use lib.IntN.{ℤ, pos, _+ℤ_, _-ℤ_, _*ℤ_}
+use mathlib.Core.Path.{_≡_, sym, ap, ap₂, _∙_, subst}
+use mir.Syntax.{w32, w64}
+use mir.Val.{SFits, toZ, ofZ}
+use native.Mathlib.Omega.{arith}
+use Rattle.std.proofs.shelf.Signed.{ints, toZ-ofZ}
+use Rattle.recoding.specs.Codings.{reached}
+use Rattle.recoding.specs.Digits.{decoded}
+use Rattle.recoding.specs.Powers.{Divided}
+use Rattle.recoding.specs.Signs.{signed}
+use Rattle.recoding.proofs.Machine.{About, sums}
+use Rattle.recoding.proofs.Windows.{signed-small}
+use Rattle.recoding.proofs.check.carry_on.Needs as need
+
+-- the signed draw, as it was computed, is small
+draw-about : (c : need.After-times-sign) → About (2 ^ 32) (c .times-sign .result)
+draw-about c =
+    let t = signed-small (c .decode-digit .result .sign) (c .args .s) in
+    let f : c .args .s < 2 ^ 32 = c .fits .s .fits in
+    let e = c .times-sign .ensures in
+    (omega (arith, ints, t, e), omega (arith, ints, t, e))
+
+pub add-sum-2 : need.add-sum-2
+add-sum-2 c = sums (c .args .carried) (c .scaled .result) (c .times-sign .result) (c .args .bits) (c .pre .small) (c .scaled .ensures .least, c .scaled .ensures .most) (draw-about c) (c .fits .bits .fits) .0
+
+pub sub-sum : need.sub-sum
+sub-sum c = sums (c .args .carried) (c .scaled .result) (c .times-sign .result) (c .args .bits) (c .pre .small) (c .scaled .ensures .least, c .scaled .ensures .most) (draw-about c) (c .fits .bits .fits) .1
+
+pub returns : need.returns
+returns c =
+    let t = signed-small (c .decode-digit .result .sign) (c .args .s) in
+    let f : c .args .s < 2 ^ 32 = c .fits .s .fits in
+    let e = c .times-sign .ensures in
+    let q = sums (c .args .carried) (c .scaled .result) (c .times-sign .result) (c .args .bits) (c .pre .small) (c .scaled .ensures .least, c .scaled .ensures .most) (omega (arith, ints, t, e), omega (arith, ints, t, e)) (c .fits .bits .fits) .2 in
+    let v : SFits w32 (c .decode-digit .result .value) = search needs in
+    let ed = c .decode-digit .ensures ∙ ap decoded (toZ-ofZ w32 (c .args .word) (c .fits .word)) in
+    let x = ap (λ (y : ℤ). toZ w64 (ofZ w64 y)) (toZ-ofZ w32 (c .decode-digit .result .value) v) ∙ toZ-ofZ w64 (c .decode-digit .result .value) (omega (arith, ints, v)) in
+    let es = c .scaled .ensures .is ∙ ap₂ (λ (n : ℕ) (y : ℤ). pos (2 ^ n) *ℤ y) (c .draw-width .ensures) x in
+    let r = q ∙ ap₂ (λ (t g : ℤ). c .args .carried +ℤ t +ℤ g -ℤ pos (c .args .bits)) es e ∙ ap (reached (c .args .sizes .b) (c .args .s) (c .args .bits) (c .args .carried)) ed in
+    record
+      { divided =
+          subst (λ (k : ℕ). Divided k (reached (c .args .sizes .b) (c .args .s) (c .args .bits) (c .args .carried) (decoded (c .args .word))) (c .divided .result)) (c .window-width .ensures)
+            (subst (λ (y : ℤ). Divided (c .window-width .result) y (c .divided .result)) r (c .divided .ensures .divided))
+      ; small = c .divided .ensures .small }
