@@ -10,3 +10,4 @@ pub mod Loop
 pub mod Tests
 pub mod Limits
 pub mod Checking
+pub mod Runs

@@ -8,3 +8,4 @@ pub mod Draws
 pub mod Digits
 pub mod Windows
 pub mod Codings
+pub mod Worked

@@ -11,3 +11,4 @@ pub mod sign;
 pub mod sizes;
 mod window;
 pub mod window_rule;
+pub mod worked;
