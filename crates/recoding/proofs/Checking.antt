@@ -14,15 +14,14 @@ use Rattle.std.proofs.shelf.Lists.{drop-more}
 use Rattle.std.proofs.shelf.Signed.{ints}
 use Rattle.std.specs.Orderings.{Decides}
 use Rattle.recoding.specs.declared.digit.Digit.{Digit}
-use Rattle.recoding.specs.declared.sizes.Sizes.{Sizes}
+use Rattle.inputs.specs.declared.sizes.Sizes.{Sizes}
 use Rattle.recoding.specs.Codings.{reached, total, Within, Coding}
 use Rattle.recoding.specs.Digits.{decoded}
-use Rattle.recoding.specs.Keys.{bitsAt}
-use Rattle.recoding.specs.Rules.{Rule, Admitted}
-use Rattle.recoding.specs.Signs.{signed}
+use Rattle.inputs.specs.Keys.{bitsAt}
+use Rattle.inputs.specs.Rules.{Rule, Admitted}
+use Rattle.inputs.specs.Signs.{signed}
 use Rattle.recoding.proofs.Equation.{times-sum, value, total-value, next-bits}
 use Rattle.recoding.proofs.Limits.{not-true}
-use Rattle.recoding.proofs.Loop.{half-field}
 
 -- a factor that is not 0 can be taken away
 no-zero : (u n : ℕ) → 0 < u → u * suc n ≡ 0 → ⊥
@@ -109,32 +108,29 @@ module _ (k b s e : ℕ) (c : ℤ) (ds : List Digit) where
   start-rest h = ap pos (sym whole) ∙ h ∙ ap (λ (z : ℤ). c +ℤ z) (sym (total-value k b s ds))
 
 -- a turn of the test, at the word of window i
-module _ (k b s d w i bits : ℕ) (a : ℤ) (ws : List ℤ) (h : i < length ws) (ew : w ≡ k) (eb : bits ≡ d / 2 ^ (w * i + 1) % 2 ^ w) where
+module _ (k b s e i bits : ℕ) (a : ℤ) (ws : List ℤ) (h : i < length ws) (bits-are : bits ≡ bitsAt e k (k * i)) where
   here : map decoded (drop i ws) ≡ decoded (getD ws i (pos 0)) ∷ map decoded (drop (i + 1) ws)
   here = ap (map decoded) (drop-more ws i (pos 0) h)
 
-  bits-are : bits ≡ bitsAt (d / 2) k (k * i)
-  bits-are = eb ∙ ap (λ (n : ℕ). d / 2 ^ (n * i + 1) % 2 ^ n) ew ∙ half-field d (k * i) k
-
-  come : (q : ℤ) → pos (2 ^ k) *ℤ q ≡ reached b s bits a (decoded (getD ws i (pos 0))) → pos (2 ^ k) *ℤ q ≡ reached b s (bitsAt (d / 2) k (k * i)) a (decoded (getD ws i (pos 0)))
+  come : (q : ℤ) → pos (2 ^ k) *ℤ q ≡ reached b s bits a (decoded (getD ws i (pos 0))) → pos (2 ^ k) *ℤ q ≡ reached b s (bitsAt e k (k * i)) a (decoded (getD ws i (pos 0)))
   come q on = on ∙ ap (λ (n : ℕ). reached b s n a (decoded (getD ws i (pos 0)))) bits-are
 
   pub turn-on : (q : ℤ) → pos (2 ^ k) *ℤ q ≡ reached b s bits a (decoded (getD ws i (pos 0))) →
-      Rest k b s (d / 2) i a (map decoded (drop i ws)) → Rest k b s (d / 2) (i + 1) q (map decoded (drop (i + 1) ws))
+      Rest k b s e i a (map decoded (drop i ws)) → Rest k b s e (i + 1) q (map decoded (drop (i + 1) ws))
   turn-on q on r =
-      subst (λ (n : ℕ). Rest k b s (d / 2) n q (map decoded (drop (i + 1) ws))) (sym (add-one i))
-        (rest-on k b s (d / 2) i a (decoded (getD ws i (pos 0))) (map decoded (drop (i + 1) ws)) q (come q on) (subst (Rest k b s (d / 2) i a) here r))
+      subst (λ (n : ℕ). Rest k b s e n q (map decoded (drop (i + 1) ws))) (sym (add-one i))
+      (rest-on k b s e i a (decoded (getD ws i (pos 0))) (map decoded (drop (i + 1) ws)) q (come q on) (subst (Rest k b s e i a) here r))
 
   pub turn-back : (q : ℤ) → pos (2 ^ k) *ℤ q ≡ reached b s bits a (decoded (getD ws i (pos 0))) →
-      Rest k b s (d / 2) (i + 1) q (map decoded (drop (i + 1) ws)) → Rest k b s (d / 2) i a (map decoded (drop i ws))
+      Rest k b s e (i + 1) q (map decoded (drop (i + 1) ws)) → Rest k b s e i a (map decoded (drop i ws))
   turn-back q on r =
-      subst (Rest k b s (d / 2) i a) (sym here)
-        (rest-back k b s (d / 2) i a (decoded (getD ws i (pos 0))) (map decoded (drop (i + 1) ws)) q (come q on) (subst (λ (n : ℕ). Rest k b s (d / 2) n q (map decoded (drop (i + 1) ws))) (add-one i) r))
+      subst (Rest k b s e i a) (sym here)
+      (rest-back k b s e i a (decoded (getD ws i (pos 0))) (map decoded (drop (i + 1) ws)) q (come q on) (subst (λ (n : ℕ). Rest k b s e n q (map decoded (drop (i + 1) ws))) (add-one i) r))
 
-  pub turn-fails : ((q : ℤ) → pos (2 ^ k) *ℤ q ≡ reached b s bits a (decoded (getD ws i (pos 0))) → ⊥) → Rest k b s (d / 2) i a (map decoded (drop i ws)) → ⊥
+  pub turn-fails : ((q : ℤ) → pos (2 ^ k) *ℤ q ≡ reached b s bits a (decoded (getD ws i (pos 0))) → ⊥) → Rest k b s e i a (map decoded (drop i ws)) → ⊥
   turn-fails never r =
-      rest-fails k b s (d / 2) i a (decoded (getD ws i (pos 0))) (map decoded (drop (i + 1) ws))
-        (λ q on. never q (on ∙ ap (λ (n : ℕ). reached b s n a (decoded (getD ws i (pos 0)))) (sym bits-are))) (subst (Rest k b s (d / 2) i a) here r)
+      rest-fails k b s e i a (decoded (getD ws i (pos 0))) (map decoded (drop (i + 1) ws))
+      (λ q on. never q (on ∙ ap (λ (n : ℕ). reached b s n a (decoded (getD ws i (pos 0)))) (sym bits-are))) (subst (Rest k b s e i a) here r)
 
 -- above the last window nothing is left to sum
 pub rest-end : (k b s e i : ℕ) (a : ℤ) → Rest k b s e i a [] → a ≡ pos (e / 2 ^ (k * i))
@@ -162,13 +158,15 @@ verdict R z e s c ds p q r t dp dq dr dt = (yes-coding, coding-yes)
         let a = both (p && q && r) t h in
         let b = both (p && q) r (a .0) in
         let d = both p q (b .0) in
-        record
-          { draw-bits = dp .0 (d .0) .0
-          ; admitted = dp .0 (d .0) .1
-          ; correction-least = dq .0 (d .1) .0
-          ; correction-most = dq .0 (d .1) .1
-          ; limits = dr .0 (b .1)
-          ; equation = dt .0 (a .1) }
+        record {
+          draw-bits = dp .0 (d .0) .0;
+          admitted = dp .0 (d .0) .1;
+          correction-least = dq .0 (d .1) .0;
+          correction-most = dq .0 (d .1) .1;
+          limits = dr .0 (b .1);
+          equation = dt .0 (a .1);
+        }
+
     coding-yes : Coding R z e s c ds → (p && q && r && t) ≡ true
     coding-yes h =
         join (p && q && r) t (join (p && q) r (join p q (dp .1 (h .draw-bits, h .admitted)) (dq .1 (h .correction-least, h .correction-most))) (dr .1 (h .limits))) (dt .1 (h .equation))

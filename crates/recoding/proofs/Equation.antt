@@ -11,17 +11,17 @@ use borrow.Author.Differences.{sum-is, product-is}
 use Rattle.std.proofs.shelf.Bits.{shr-shr, shr-below}
 use Rattle.std.proofs.shelf.Signed.{ints}
 use Rattle.recoding.specs.declared.digit.Digit.{Digit}
-use Rattle.recoding.specs.declared.sign.Carry.{Carry}
-use Rattle.recoding.specs.declared.sign.Carry.the-variants.{Zero}
-use Rattle.recoding.specs.declared.sign.Choice.{Choice}
-use Rattle.recoding.specs.declared.sign.Sign.{Sign}
-use Rattle.recoding.specs.declared.sign.Sign.the-variants.{Plus, Minus}
+use Rattle.inputs.specs.declared.sign.Carry.{Carry}
+use Rattle.inputs.specs.declared.sign.Carry.the-variants.{Zero}
+use Rattle.inputs.specs.declared.sign.Choice.{Choice}
+use Rattle.inputs.specs.declared.sign.Sign.{Sign}
+use Rattle.inputs.specs.declared.sign.Sign.the-variants.{Plus, Minus}
 use Rattle.recoding.specs.Codings.{total, Within}
 use Rattle.recoding.specs.Digits.{carried}
-use Rattle.recoding.specs.Keys.{bitsAt}
-use Rattle.recoding.specs.Rules.{Rule, Lawful, Admitted, Reached, digit, rest}
-use Rattle.recoding.specs.Signs.{signed, carryValue}
-use Rattle.recoding.specs.Sizes.{Widths}
+use Rattle.inputs.specs.Keys.{bitsAt}
+use Rattle.inputs.specs.Rules.{Rule, Lawful, Admitted, Reached, digit, rest}
+use Rattle.inputs.specs.Signs.{signed, carryValue}
+use Rattle.inputs.specs.Sizes.{Widths}
 use Rattle.recoding.specs.Windows.{State, put, below, windows}
 use Rattle.recoding.proofs.Windows.{split, rest-small, below-range, carry-small}
 
@@ -40,10 +40,16 @@ value k b s (d ∷ ds) = pos (2 ^ b) *ℤ d .value +ℤ signed (d .sign) (pos s)
 pub total-is : (k b s i : ℕ) (ds : List Digit) → total k b s i ds ≡ pos (2 ^ (k * i)) *ℤ value k b s ds
 total-is k b s i [] = omega (arith, ints)
 total-is k b s i (d ∷ ds) =
-    rw (total-is k b s (suc i) ds, mul-suc k i, pow-add 2 (k * i) k, pow-add 2 (k * i) b,
-        ← (times-times (2 ^ (k * i)) (2 ^ k) (value k b s ds)), ← (times-times (2 ^ (k * i)) (2 ^ b) (d .value)),
-        times-sum (2 ^ (k * i)) (pos (2 ^ b) *ℤ d .value +ℤ signed (d .sign) (pos s)) (pos (2 ^ k) *ℤ value k b s ds),
-        times-sum (2 ^ (k * i)) (pos (2 ^ b) *ℤ d .value) (signed (d .sign) (pos s)))
+    rw (
+      total-is k b s (suc i) ds,
+      mul-suc k i,
+      pow-add 2 (k * i) k,
+      pow-add 2 (k * i) b,
+      ← (times-times (2 ^ (k * i)) (2 ^ k) (value k b s ds)),
+      ← (times-times (2 ^ (k * i)) (2 ^ b) (d .value)),
+      times-sum (2 ^ (k * i)) (pos (2 ^ b) *ℤ d .value +ℤ signed (d .sign) (pos s)) (pos (2 ^ k) *ℤ value k b s ds),
+      times-sum (2 ^ (k * i)) (pos (2 ^ b) *ℤ d .value) (signed (d .sign) (pos s)),
+    )
 
 pub total-value : (k b s : ℕ) (ds : List Digit) → total k b s 0 ds ≡ value k b s ds
 total-value k b s ds = total-is k b s 0 ds ∙ rw (mul-zero k) (omega (arith, ints))
@@ -122,22 +128,27 @@ module _ (R : Rule) (k b s e : ℕ) (z : Widths k b) (a : Admitted R k b s) (L :
 
   -- one window more
   next : (i n : ℕ) → e < 2 ^ (k * (i + suc n) + b - 1) → Good R k b s e (suc i) (after R k b s e (suc i) n) → Good R k b s e i (after R k b s e i (suc n))
-  next i n h up = record
-      { sum = ap pos (next-bits e k i) ∙ rw (value-carried k b s (c .carry) (above .digits) (calm-top i n h))
-                (step-sum (2 ^ k) (2 ^ b) (2 ^ (k + b)) bits (above .left) (value k b s (above .digits)) (digit k b here s c) (signed (c .sign) (pos s)) (carryValue (c .carry))
-                  (rest k b here s c) (e / 2 ^ (k * suc i)) (pow-add 2 k b) (up .sum) (split k b s here c))
-      ; least = rest-small k b s here c .0
-      ; most = rest-small k b s here c .1
-      ; inner = (L .above k b s here z a range, L .below k b s here z a range, carried-within (R .lo k b) (R .hi k b) (c .carry) (above .digits) (up .inner)) }
+  next i n h up = record {
+    sum = ap pos (next-bits e k i) ∙ rw (value-carried k b s (c .carry) (above .digits) (calm-top i n h))
+        (step-sum (2 ^ k) (2 ^ b) (2 ^ (k + b)) bits (above .left) (value k b s (above .digits)) (digit k b here s c) (signed (c .sign) (pos s)) (carryValue (c .carry))
+        (rest k b here s c) (e / 2 ^ (k * suc i)) (pow-add 2 k b) (up .sum) (split k b s here c));
+    least = rest-small k b s here c .0;
+    most = rest-small k b s here c .1;
+    inner = (L .above k b s here z a range, L .below k b s here z a range, carried-within (R .lo k b) (R .hi k b) (c .carry) (above .digits) (up .inner));
+  }
     where
       above : State
       above = after R k b s e (suc i) n
+
       bits : ℕ
       bits = bitsAt e k (k * i)
+
       here : ℤ
       here = below k bits (above .left)
+
       c : Choice
       c = R .choose k b here s
+
       range : Reached k b here
       range = rw (pow-add 2 k b) (rw (mul-comm (2 ^ k) (2 ^ b)) (below-range (2 ^ b) (2 ^ k) bits (above .left) (mod-lt (e / 2 ^ (k * i)) (pow-pos k)) (up .least) (up .most)))
 
@@ -146,6 +157,7 @@ module _ (R : Rule) (k b s e : ℕ) (z : Widths k b) (a : Admitted R k b s) (L :
     where
       exponents : k * (i + 0) + b - 1 ≤ b + k * i
       exponents = omega arith
+
       small : e / 2 ^ (k * i) < 2 ^ b
       small = shr-below e b (k * i) (le-trans h (pow-mono exponents))
   good i (suc n) h =

@@ -11,7 +11,7 @@ use native.Mathlib.Omega.{arith}
 use Rattle.recoding.specs.declared.digit.Digit.{Digit}
 use Rattle.recoding.specs.Codings.{Within}
 use Rattle.recoding.specs.Digits.{decoded}
-use Rattle.recoding.specs.Signs.{signed}
+use Rattle.inputs.specs.Signs.{signed}
 
 -- the digit in a word, with its sign, is from lo to hi
 abbrev pub One : (lo hi word : ℤ) → Type 0

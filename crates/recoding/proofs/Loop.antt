@@ -15,31 +15,25 @@ use Rattle.std.proofs.shelf.Bits.{shr-shr, shr-below}
 use Rattle.std.proofs.shelf.Lists.{getD-drop, take-at}
 use Rattle.std.proofs.shelf.Signed.{ints}
 use Rattle.recoding.specs.declared.digit.Digit.{Digit}
-use Rattle.recoding.specs.declared.sign.Carry.{Carry}
-use Rattle.recoding.specs.declared.sign.Choice.{Choice}
-use Rattle.recoding.specs.declared.sign.Sign.{Sign}
-use Rattle.recoding.specs.declared.sign.Sign.the-variants.{Plus, Minus}
-use Rattle.recoding.specs.declared.sizes.Sizes.{Sizes}
+use Rattle.inputs.specs.declared.sign.Carry.{Carry}
+use Rattle.inputs.specs.declared.sign.Choice.{Choice}
+use Rattle.inputs.specs.declared.sign.Sign.{Sign}
+use Rattle.inputs.specs.declared.sign.Sign.the-variants.{Plus, Minus}
+use Rattle.inputs.specs.declared.sizes.Sizes.{Sizes}
 use Rattle.recoding.specs.Codings.{total, Within, Coding, digitsIn}
 use Rattle.recoding.specs.Digits.{encoded, decoded, carried, raised}
-use Rattle.recoding.specs.Keys.{bitsAt}
-use Rattle.recoding.specs.Rules.{Rule, Lawful, Admitted, Reached, digit, rest}
-use Rattle.recoding.specs.Signs.{signed, carryValue}
-use Rattle.recoding.specs.Sizes.{Widths, keyBits}
+use Rattle.inputs.specs.Keys.{bitsAt}
+use Rattle.inputs.specs.Rules.{Rule, Lawful, Admitted, Reached, digit, rest}
+use Rattle.inputs.specs.Signs.{signed, carryValue}
+use Rattle.inputs.specs.Sizes.{Widths, keyBits}
 use Rattle.recoding.specs.Windows.{State, put, below, recoding}
 use Rattle.recoding.proofs.Equation.{Good, Inner, after, good, windows-are, inner-within, total-value, value}
 use Rattle.recoding.proofs.Machine.{About}
 use Rattle.recoding.proofs.Windows.{below-range, digit-small, hi-small}
 
--- the bits of d from bit p + 1 up are those of its half from bit p up
-pub half-field : (d p k : ℕ) → d / 2 ^ (p + 1) % 2 ^ k ≡ bitsAt (d / 2) k p
-half-field d p k =
-    let e : p + 1 ≡ 1 + p = omega arith in
-    rw e (ap (λ (x : ℕ). x % 2 ^ k) (sym (shr-shr d 1 p)))
-
-pub top-field : (d k b m : ℕ) → d < 2 ^ (m * k + b) → d / 2 ^ (k * m + 1) % 2 ^ b ≡ d / 2 / 2 ^ (k * m)
-top-field d k b m h =
-    half-field d (k * m) b ∙ mod-eq-of-lt (rw (shr-shr d 1 (k * m)) (shr-below d b (1 + k * m) (le-trans h (pow-mono more))))
+-- the bits of a key's half above all windows are all that is left of it there
+pub top-field : (d k b m : ℕ) → d < 2 ^ (m * k + b) → bitsAt (d / 2) b (k * m) ≡ d / 2 / 2 ^ (k * m)
+top-field d k b m h = mod-eq-of-lt (rw (shr-shr d 1 (k * m)) (shr-below d b (1 + k * m) (le-trans h (pow-mono more))))
   where
     more : m * k + b ≤ b + (1 + k * m)
     more = omega arith
@@ -102,8 +96,10 @@ module _ (R : Rule) (z : Sizes) (s d : ℕ) (L : Lawful R) (a : Admitted R (z .k
     where
       same : z .m ≡ i + (z .m - i)
       same = omega arith
+
       one : keyBits z ≡ (z .k * z .m + z .b - 1) + 1
       one = omega arith
+
       small : d / 2 < 2 ^ (z .k * z .m + z .b - 1)
       small = shr-below d (z .k * z .m + z .b - 1) 1 (subst (λ (x : ℕ). d < 2 ^ x) one fits)
 
@@ -114,7 +110,7 @@ module _ (R : Rule) (z : Sizes) (s d : ℕ) (L : Lawful R) (a : Admitted R (z .k
   reached-at i h =
       let g = good-at i h in
       rw (pow-add 2 (z .k) (z .b)) (rw (mul-comm (2 ^ z .k) (2 ^ z .b))
-        (below-range (2 ^ z .b) (2 ^ z .k) (bitsAt (d / 2) (z .k) (z .k * (i - 1))) (standing R z s (d / 2) i .left) (mod-lt (d / 2 / 2 ^ (z .k * (i - 1))) (pow-pos (z .k))) (g .least) (g .most)))
+      (below-range (2 ^ z .b) (2 ^ z .k) (bitsAt (d / 2) (z .k) (z .k * (i - 1))) (standing R z s (d / 2) i .left) (mod-lt (d / 2 / 2 ^ (z .k * (i - 1))) (pow-pos (z .k))) (g .least) (g .most)))
 
   pub digit-about : (i : ℕ) → i ≤ z .m → About (2 ^ 20) (digit (z .k) (z .b) (numberAt R z s (d / 2) i) s (choice i))
   digit-about i h = digit-small R (z .k) (z .b) s (numberAt R z s (d / 2) i) L (widths z) a (reached-at i h)
@@ -134,9 +130,8 @@ module _ (R : Rule) (z : Sizes) (s d : ℕ) (L : Lawful R) (a : Admitted R (z .k
   start = rw (sub-self (z .m)) (refl, refl)
 
   -- the number of the window that a turn cuts
-  pub number-is : (i bits w : ℕ) (h x : ℤ) → w ≡ z .k → x ≡ standing R z s (d / 2) i .left → bits ≡ d / 2 ^ (w * (i - 1) + 1) % 2 ^ w → h ≡ below (z .k) bits x → h ≡ numberAt R z s (d / 2) i
-  number-is i bits w h x ew q f e =
-      e ∙ ap₂ (λ (n : ℕ) (v : ℤ). below (z .k) n v) (f ∙ ap (λ (k : ℕ). d / 2 ^ (k * (i - 1) + 1) % 2 ^ k) ew ∙ half-field d (z .k * (i - 1)) (z .k)) q
+  pub number-is : (i bits : ℕ) (h x : ℤ) → x ≡ standing R z s (d / 2) i .left → bits ≡ bitsAt (d / 2) (z .k) (z .k * (i - 1)) → h ≡ below (z .k) bits x → h ≡ numberAt R z s (d / 2) i
+  number-is i bits h x q f e = e ∙ ap₂ (λ (n : ℕ) (v : ℤ). below (z .k) n v) f q
 
   -- the end of a turn
   pub again : (i : ℕ) → 0 < i → i ≤ z .m → (ws ws′ : List ℤ) (h left word : ℤ) (x : Digit) (t : Carry) →
@@ -151,10 +146,11 @@ module _ (R : Rule) (z : Sizes) (s d : ℕ) (L : Lawful R) (a : Admitted R (z .k
       let fg = eg ∙ ap (λ (y : ℤ). C y .sign) eh in
       let ft = et ∙ ap (λ (y : ℤ). C y .carry) eh in
       let fr = er ∙ ap (λ (y : ℤ). rest (z .k) (z .b) y s (C y)) eh in
-      rw (next-at i p l)
-        ( eout ∙ ap₂ (λ (x : ℤ) (y : List ℤ). x ∷ y) (eword ∙ ap₂ (λ (v : ℤ) (g : Sign). encoded (record { value = v; sign = g })) fw fg)
-            (ap₂ (λ (x : Carry) (y : List ℤ). raised x y) ft (ap (λ (n : ℕ). drop n ws) back ∙ ein) ∙ sym (raised-carried (choice i .carry) (standing R z s (d / 2) i .digits)))
-        , fr )
+      rw (next-at i p l) (
+        eout ∙ ap₂ (λ (x : ℤ) (y : List ℤ). x ∷ y) (eword ∙ ap₂ (λ (v : ℤ) (g : Sign). encoded (record { value = v; sign = g })) fw fg)
+            (ap₂ (λ (x : Carry) (y : List ℤ). raised x y) ft (ap (λ (n : ℕ). drop n ws) back ∙ ein) ∙ sym (raised-carried (choice i .carry) (standing R z s (d / 2) i .digits))),
+        fr,
+      )
 
   -- the windows of the specification are all of them
   all-windows : recoding R z s (d / 2) ≡ standing R z s (d / 2) 0
@@ -173,16 +169,18 @@ module _ (R : Rule) (z : Sizes) (s d : ℕ) (L : Lawful R) (a : Admitted R (z .k
 
   -- what the steps give is a coding of the half
   coded : Coding R z (d / 2) s (recoding R z s (d / 2) .left) (recoding R z s (d / 2) .digits)
-  coded = subst (λ (x : State). Coding R z (d / 2) s (x .left) (x .digits)) (sym all-windows) (record
-      { draw-bits = a .0
-      ; admitted = a .1
-      ; correction-least = at .least
-      ; correction-most = at .most
-      ; limits = inner-within (R .lo (z .k) (z .b)) (R .hi (z .k) (z .b)) (standing R z s (d / 2) 0 .digits) (at .inner)
-      ; equation = ap pos (sym whole) ∙ at .sum ∙ ap (λ (y : ℤ). standing R z s (d / 2) 0 .left +ℤ y) (sym (total-value (z .k) (z .b) s (standing R z s (d / 2) 0 .digits))) })
+  coded = subst (λ (x : State). Coding R z (d / 2) s (x .left) (x .digits)) (sym all-windows) (record {
+    draw-bits = a .0;
+    admitted = a .1;
+    correction-least = at .least;
+    correction-most = at .most;
+    limits = inner-within (R .lo (z .k) (z .b)) (R .hi (z .k) (z .b)) (standing R z s (d / 2) 0 .digits) (at .inner);
+    equation = ap pos (sym whole) ∙ at .sum ∙ ap (λ (y : ℤ). standing R z s (d / 2) 0 .left +ℤ y) (sym (total-value (z .k) (z .b) s (standing R z s (d / 2) 0 .digits)));
+  })
     where
       at : Good R (z .k) (z .b) s (d / 2) 0 (standing R z s (d / 2) 0)
       at = good-at 0 zero-le
+
       whole : d / 2 / 2 ^ (z .k * 0) ≡ d / 2
       whole = rw (mul-zero (z .k)) (div-one (d / 2))
 

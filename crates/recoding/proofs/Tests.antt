@@ -11,14 +11,14 @@ use Rattle.common.specs.declared.refusal.Refusal.the-variants.{KeyLength, KeyTo
 use Rattle.std.proofs.shelf.Tests.{ltb-false, leb-false, eqb-true, lt-ltb, le-ltb, eq-eqb, ne-eqb}
 use Rattle.std.specs.declared.option.Option.{Option}
 use Rattle.std.specs.declared.option.Option.the-variants.{Some, None}
-use Rattle.recoding.specs.declared.draw.Draw.{Draw}
-use Rattle.recoding.specs.declared.sizes.Sizes.{Sizes}
+use Rattle.inputs.specs.declared.draw.Draw.{Draw}
+use Rattle.inputs.specs.declared.sizes.Sizes.{Sizes}
 use Rattle.recoding.specs.Codings.{digitsRefusal, checkRefusal, recodeRefusal}
-use Rattle.recoding.specs.Draws.{drawRefusal}
-use Rattle.recoding.specs.Keys.{scalar, highestBit, keyRefusal}
-use Rattle.recoding.specs.Rules.{Rule, Admitted}
-use Rattle.recoding.specs.Sizes.{keyBits, outside}
-use Rattle.recoding.specs.Tests.{orElse}
+use Rattle.inputs.specs.Draws.{drawRefusal}
+use Rattle.inputs.specs.Keys.{scalar, highestBit, keyRefusal}
+use Rattle.inputs.specs.Rules.{Rule, Admitted}
+use Rattle.inputs.specs.Sizes.{keyBits, outside}
+use Rattle.inputs.specs.Tests.{orElse}
 
 some-none : {e : Refusal} → Some e ≡ None → ⊥
 some-none p = let z : _≡_ {A = ℕ} 0 1 = cc in omega arith
@@ -65,10 +65,11 @@ lent R z key n d p =
     let q = both-pass (checkRefusal z key n) (drawRefusal R z d) p in
     let r = both-pass (keyRefusal z key) (digitsRefusal z n) (q .0) in
     let s = draw-fits R z d (q .1) in
-    record
-      { below = key-below z key (r .0)
-      ; enough = words-enough z n (r .1)
-      ; admitted = (rw (← (s .0)) (d .below), s .1) }
+    record {
+      below = key-below z key (r .0);
+      enough = words-enough z n (r .1);
+      admitted = (rw (← (s .0)) (d .below), s .1);
+    }
 
 -- which refusal a failed test names
 pub words-refused : (z : Sizes) (n : ℕ) → n < z .m → digitsRefusal z n ≡ Some (TooFewDigits n)

@@ -8,15 +8,15 @@ use native.Mathlib.Nat.{mul-le-mul-right}
 use native.Mathlib.Omega.{arith}
 use Rattle.std.proofs.shelf.Bits.{mul-le}
 use Rattle.std.proofs.shelf.Signed.{ints}
-use Rattle.recoding.specs.declared.sign.Choice.{Choice}
-use Rattle.recoding.specs.declared.sign.Carry.{Carry}
-use Rattle.recoding.specs.declared.sign.Carry.the-variants.{Down, Zero, Up}
-use Rattle.recoding.specs.declared.sign.Sign.{Sign}
-use Rattle.recoding.specs.declared.sign.Sign.the-variants.{Plus, Minus}
-use Rattle.recoding.specs.Signs.{signed, carryValue}
-use Rattle.recoding.specs.Sizes.{Widths}
-use Rattle.recoding.specs.Rules.{Rule, Lawful, Admitted, Reached, remainder, digit, rest}
-use Rattle.recoding.proofs.Quotients.{quot-rem, rem-small}
+use Rattle.inputs.specs.declared.sign.Choice.{Choice}
+use Rattle.inputs.specs.declared.sign.Carry.{Carry}
+use Rattle.inputs.specs.declared.sign.Carry.the-variants.{Down, Zero, Up}
+use Rattle.inputs.specs.declared.sign.Sign.{Sign}
+use Rattle.inputs.specs.declared.sign.Sign.the-variants.{Plus, Minus}
+use Rattle.inputs.specs.Signs.{signed, carryValue}
+use Rattle.inputs.specs.Sizes.{Widths}
+use Rattle.inputs.specs.Rules.{Rule, Lawful, Admitted, Reached, remainder, digit, rest}
+use Rattle.inputs.proofs.Quotients.{quot-rem, rem-small}
 
 -- what is left of r by its quotient is its remainder
 left-is : (r p x : ℤ) → r ≡ p +ℤ x → r -ℤ p ≡ x
@@ -63,7 +63,7 @@ pub digit-small : (R : Rule) (k b s : ℕ) (h : ℤ) → Lawful R → Widths k b
     (negℤ (pos (2 ^ 20)) ≤ℤ digit k b h s (R .choose k b h s)) × (digit k b h s (R .choose k b h s) ≤ℤ pos (2 ^ 20))
 digit-small R k b s h L z a r =
     signed-out (R .choose k b h s .sign) (digit k b h s (R .choose k b h s)) (R .lo k b) (R .hi k b)
-      (omega (arith, ints, L .above k b s h z a r)) (omega (arith, ints, L .below k b s h z a r)) (L .lo-least k b z) (hi-small R k b L z)
+    (omega (arith, ints, L .above k b s h z a r)) (omega (arith, ints, L .below k b s h z a r)) (L .lo-least k b z) (hi-small R k b L z)
 
 -- a product with a carry, and one with a sign
 times-carry : (n : ℕ) (t : Carry) → (negℤ (pos n) ≤ℤ (pos n *ℤ carryValue t)) × ((pos n *ℤ carryValue t) ≤ℤ pos n)
@@ -91,14 +91,15 @@ remainder-small k b s h c z hs r =
     let p : 2 ^ (k + b) ≤ 2 ^ 36 = pow-mono x in
     let g = signed-small (c .sign) s in
     let t = times-carry (2 ^ (k + b)) (c .carry) in
-    record
-      { power-most = p
-      ; shift-least = omega (arith, ints)
-      ; shift-most = omega (arith, ints)
-      ; carry-least = omega (arith, ints)
-      ; carry-most = omega (arith, ints)
-      ; number-least = omega (arith, ints, r .0)
-      ; number-most = omega (arith, ints, r .1) }
+    record {
+      power-most = p;
+      shift-least = omega (arith, ints);
+      shift-most = omega (arith, ints);
+      carry-least = omega (arith, ints);
+      carry-most = omega (arith, ints);
+      number-least = omega (arith, ints, r .0);
+      number-most = omega (arith, ints, r .1);
+    }
 
 -- a product of a power and a number that is small
 pub times-bound : (n m r : ℕ) (z : ℤ) → n ≤ m → negℤ (pos r) ≤ℤ z → z ≤ℤ pos r → (negℤ (pos (m * r)) ≤ℤ (pos n *ℤ z)) × ((pos n *ℤ z) ≤ℤ pos (m * r))

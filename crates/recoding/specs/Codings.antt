@@ -11,14 +11,14 @@ use Rattle.common.specs.declared.refusal.Refusal.{Refusal}
 use Rattle.common.specs.declared.refusal.Refusal.the-variants.{TooFewDigits}
 use Rattle.recoding.specs.declared.coded.Coded.{Coded}
 use Rattle.recoding.specs.declared.digit.Digit.{Digit}
-use Rattle.recoding.specs.declared.draw.Draw.{Draw}
-use Rattle.recoding.specs.declared.sizes.Sizes.{Sizes}
+use Rattle.inputs.specs.declared.draw.Draw.{Draw}
+use Rattle.inputs.specs.declared.sizes.Sizes.{Sizes}
 use Rattle.recoding.specs.Digits.{encoded, decoded, zeros}
-use Rattle.recoding.specs.Draws.{drawRefusal}
-use Rattle.recoding.specs.Keys.{half, keyRefusal}
-use Rattle.recoding.specs.Rules.{Rule}
-use Rattle.recoding.specs.Signs.{signed}
-use Rattle.recoding.specs.Tests.{orElse}
+use Rattle.inputs.specs.Draws.{drawRefusal}
+use Rattle.inputs.specs.Keys.{half, keyRefusal}
+use Rattle.inputs.specs.Rules.{Rule}
+use Rattle.inputs.specs.Signs.{signed}
+use Rattle.inputs.specs.Tests.{orElse}
 use Rattle.recoding.specs.Windows.{recoding}
 use Rattle.std.specs.Orderings.{Decides}
 use Rattle.std.specs.declared.option.Option.{Option}

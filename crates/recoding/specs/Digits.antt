@@ -6,10 +6,10 @@ use lib.IntN.{ℤ, pos, _+ℤ_, _*ℤ_}
 use lib.ListN.{replicate}
 use lib.Signed.{ltZ}
 use Rattle.recoding.specs.declared.digit.Digit.{Digit}
-use Rattle.recoding.specs.declared.sign.Carry.{Carry}
-use Rattle.recoding.specs.declared.sign.Sign.{Sign}
-use Rattle.recoding.specs.declared.sign.Sign.the-variants.{Plus, Minus}
-use Rattle.recoding.specs.Signs.{carryValue}
+use Rattle.inputs.specs.declared.sign.Carry.{Carry}
+use Rattle.inputs.specs.declared.sign.Sign.{Sign}
+use Rattle.inputs.specs.declared.sign.Sign.the-variants.{Plus, Minus}
+use Rattle.inputs.specs.Signs.{carryValue}
 use Rattle.std.specs.Numbers.{divEuclid, remEuclid}
 
 -- what a sign adds to the word: 1 for a minus

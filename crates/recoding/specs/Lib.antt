@@ -1,10 +1,4 @@
-pub mod Sizes
 pub mod Powers
-pub mod Signs
-pub mod Rules
-pub mod Tests
-pub mod Keys
-pub mod Draws
 pub mod Digits
 pub mod Windows
 pub mod Codings

@@ -3,10 +3,10 @@ use mathlib.Core.List.{List, [], _∷_}
 use Prim.Native.Nat.{ℕ, zero, suc, _-_, _*_, _/_, _^_}
 use lib.IntN.{ℤ, pos, _+ℤ_, _*ℤ_}
 use Rattle.recoding.specs.declared.digit.Digit.{Digit}
-use Rattle.recoding.specs.declared.sizes.Sizes.{Sizes}
+use Rattle.inputs.specs.declared.sizes.Sizes.{Sizes}
 use Rattle.recoding.specs.Digits.{carried}
-use Rattle.recoding.specs.Keys.{bitsAt}
-use Rattle.recoding.specs.Rules.{Rule, digit, rest}
+use Rattle.inputs.specs.Keys.{bitsAt}
+use Rattle.inputs.specs.Rules.{Rule, digit, rest}
 
 -- the digits of the windows so far, lowest first, and what they leave
 pub record State : Type 0 where
@@ -15,9 +15,10 @@ pub record State : Type 0 where
 
 -- one window more, of the number h, below those above it: its digit, its sign, its carry into the window above, and what it leaves
 abbrev pub put : Rule → (k b s : ℕ) → ℤ → List Digit → State
-put R k b s h above = record
-  { left = rest k b h s (R .choose k b h s)
-  ; digits = record { value = digit k b h s (R .choose k b h s); sign = R .choose k b h s .sign } ∷ carried (R .choose k b h s .carry) above }
+put R k b s h above = record {
+  left = rest k b h s (R .choose k b h s);
+  digits = record { value = digit k b h s (R .choose k b h s); sign = R .choose k b h s .sign } ∷ carried (R .choose k b h s .carry) above;
+}
 
 -- the number of a window below another: what that one left and the next k bits
 abbrev pub below : (k bits : ℕ) → ℤ → ℤ

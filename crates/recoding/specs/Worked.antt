@@ -4,13 +4,13 @@ use mathlib.Core.Path.{_≡_}
 use Prim.Native.Nat.{ℕ}
 use lib.IntN.{ℤ, pos, negsuc}
 use Rattle.recoding.specs.declared.digit.Digit.{Digit}
-use Rattle.recoding.specs.declared.sign.Carry.the-variants.{Down}
-use Rattle.recoding.specs.declared.sign.Choice.{Choice}
-use Rattle.recoding.specs.declared.sign.Sign.the-variants.{Plus, Minus}
-use Rattle.recoding.specs.declared.window_rule.WindowRule.{WindowRule}
-use Rattle.recoding.specs.declared.window_rule.WindowRule.the-variants.{Shifted, Centered, Nonzero}
+use Rattle.inputs.specs.declared.sign.Carry.the-variants.{Down}
+use Rattle.inputs.specs.declared.sign.Choice.{Choice}
+use Rattle.inputs.specs.declared.sign.Sign.the-variants.{Plus, Minus}
+use Rattle.inputs.specs.declared.window_rule.WindowRule.{WindowRule}
+use Rattle.inputs.specs.declared.window_rule.WindowRule.the-variants.{Shifted, Centered, Nonzero}
 use Rattle.recoding.specs.Digits.{encoded}
-use Rattle.recoding.specs.Rules.{ruleOf, remainder, digit, rest}
+use Rattle.inputs.specs.Rules.{ruleOf, remainder, digit, rest}
 use Rattle.recoding.specs.Windows.{State, windows}
 
 -- a digit with a plus, and one with a minus

@@ -1,6 +1,6 @@
 //! The coded state: what a recoding makes of a draw.
 ghost use mathlib.Core.Path.{_≡_};
-use crate::draw::Draw;
+use inputs::draw::Draw;
 
 /// A draw that one recoding has spent, and the correction that it left. The digits stand in the
 /// words that the recoding was lent. Like a draw it is neither copied nor let go.
@@ -26,7 +26,10 @@ impl Coded {
 
     /// Ends the coded state.
     pub fn end(self) {
-        let Coded { draw, correction: _ } = self;
+        let Coded {
+            draw,
+            correction: _,
+        } = self;
         draw.end();
     }
 }

@@ -6,8 +6,8 @@ ghost use lib.ListN.{length};
 ghost use lib.Signed.{_≤ℤ_};
 ghost use denote.Ref.{name};
 ghost use Rattle.recoding.specs.Digits.{encoded, decoded, zeros};
-ghost use Rattle.recoding.specs.Signs.{signed};
-use crate::sign::Sign;
+ghost use Rattle.inputs.specs.Signs.{signed};
+use inputs::sign::Sign;
 
 /// The digit of a window, and its sign.
 #[derive(Clone, Copy)]
@@ -21,8 +21,15 @@ impl Digit {
     pub fn decode(word: i32) -> Digit
         ensures { λ r. ⌜ r ≡ decoded word ⌝ }
     {
-        let sign = if word.rem_euclid(2) > 0 { Sign::Minus } else { Sign::Plus };
-        Digit { value: word.div_euclid(2), sign }
+        let sign = if word.rem_euclid(2) > 0 {
+            Sign::Minus
+        } else {
+            Sign::Plus
+        };
+        Digit {
+            value: word.div_euclid(2),
+            sign,
+        }
     }
 
     /// The digit times its sign.

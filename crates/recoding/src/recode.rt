@@ -7,28 +7,35 @@ ghost use lib.ListN.{length, getD, drop};
 ghost use lib.Signed.{_≤ℤ_};
 ghost use Rattle.recoding.specs.Codings.{recodeRefusal, Recoded};
 ghost use Rattle.recoding.specs.Digits.{encoded, raised};
-ghost use Rattle.recoding.specs.Keys.{scalar, half};
-ghost use Rattle.recoding.specs.Rules.{Admitted};
-ghost use Rattle.recoding.specs.Sizes.{keyBits};
-ghost use Rattle.recoding.specs.Tests.{Tested};
+ghost use Rattle.inputs.specs.Keys.{scalar, half};
+ghost use Rattle.inputs.specs.Rules.{Admitted};
+ghost use Rattle.inputs.specs.Sizes.{keyBits};
+ghost use Rattle.inputs.specs.Tests.{Tested};
 ghost use Rattle.recoding.specs.Windows.{recoding};
 use crate::check::check_lent;
 use crate::coded::Coded;
 use crate::digit::wipe;
-use crate::draw::Draw;
-use crate::key::bits_from;
-use crate::rule::SignRule;
-use crate::sign::Carry;
-use crate::sizes::Sizes;
 use crate::window::cut;
 use crate::window::join;
 use common::refusal::Refusal;
+use inputs::draw::Draw;
+use inputs::key::top_bits;
+use inputs::key::window_bits;
+use inputs::rule::SignRule;
+use inputs::sign::Carry;
+use inputs::sizes::Sizes;
 
 /// Recodes the key by the draw: fills the first words with the digits of its windows, touches no
 /// other, and spends the draw in the coded state. Refuses a key (4, 5) or too few words (6) or a
 /// draw of another width or that the rule does not admit (10), in this order; then the draw comes
 /// back and all words are zero.
-pub fn recode<R: SignRule>(rule: &R, sizes: Sizes, key: &[u32], draw: Draw, words: &mut [i32]) -> Result<Coded, (Refusal, Draw)>
+pub fn recode<R: SignRule>(
+    rule: &R,
+    sizes: Sizes,
+    key: &[u32],
+    draw: Draw,
+    words: &mut [i32],
+) -> Result<Coded, (Refusal, Draw)>
     ensures { λ r. ⌜ Recoded (R·SignRule .rule (now (rule .entry))) sizes (now (key .entry)) draw (now (words .entry)) r (now (words .exit)) ⌝ }
 {
     if let Err(refusal) = check_recoding(rule, sizes, key, words.len(), &draw) {
@@ -41,7 +48,13 @@ pub fn recode<R: SignRule>(rule: &R, sizes: Sizes, key: &[u32], draw: Draw, word
 }
 
 // The tests of a recoding, in their order.
-fn check_recoding<R: SignRule>(rule: &R, sizes: Sizes, key: &[u32], words: usize, draw: &Draw) -> Result<(), Refusal>
+fn check_recoding<R: SignRule>(
+    rule: &R,
+    sizes: Sizes,
+    key: &[u32],
+    words: usize,
+    draw: &Draw,
+) -> Result<(), Refusal>
     ensures { λ r. ⌜ Tested (recodeRefusal (R·SignRule .rule (now (rule .entry))) sizes (now (key .entry)) words (now (draw .entry))) r ⌝ }
 {
     check_lent(sizes, key, words)?;
@@ -56,20 +69,24 @@ fn check_recoding<R: SignRule>(rule: &R, sizes: Sizes, key: &[u32], words: usize
 
 // The words of all windows of the key's half, from the top one down, and the correction. The bits
 // of the half above all windows stand for what a window above the top one would leave.
-fn recode_windows<R: SignRule>(rule: &R, sizes: Sizes, key: &[u32], s: u32, words: &mut [i32]) -> i32
+fn recode_windows<R: SignRule>(
+    rule: &R,
+    sizes: Sizes,
+    key: &[u32],
+    s: u32,
+    words: &mut [i32],
+) -> i32
     requires count { ⌜ length (now words) ≡ sizes .m ⌝ }
     requires admitted { ⌜ Admitted (R·SignRule .rule (now rule)) (sizes .k) (sizes .b) s ⌝ }
     requires key { ⌜ scalar (now key) < 2 ^ keyBits sizes ⌝ }
     ensures words { λ _. ⌜ now (words .exit) ≡ map encoded (recoding (R·SignRule .rule (now (rule .entry))) sizes s (half (now (key .entry))) .digits) ⌝ }
     ensures correction { λ r. ⌜ r ≡ recoding (R·SignRule .rule (now (rule .entry))) sizes s (half (now (key .entry))) .left ⌝ }
 {
-    let width = sizes.window_width();
-    let count = words.len();
-    let mut left = bits_from(key, width as usize * count + 1, sizes.draw_width()) as i64;
-    for i in (0..count).rev() {
-        let bits = bits_from(key, width as usize * i + 1, width);
+    let mut left = top_bits(sizes, key) as i64;
+    for i in (0..sizes.windows()).rev() {
+        let bits = window_bits(sizes, key, i);
         let window = cut(rule, sizes, join(sizes, left, bits), s);
-        place(words, i, window.digit.encode(), window.carry);
+        place(words, i as usize, window.digit.encode(), window.carry);
         left = window.left;
     }
     left as i32

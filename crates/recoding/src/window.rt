@@ -3,17 +3,16 @@ ghost use mathlib.Core.Path.{_≡_};
 ghost use Prim.Native.Nat.{_^_};
 ghost use lib.IntN.{pos, negℤ, _*ℤ_};
 ghost use lib.Signed.{_≤ℤ_};
-ghost use Rattle.recoding.specs.Rules.{remainder, digit, rest, Reached, Admitted};
-ghost use Rattle.recoding.specs.Signs.{signed, carryValue};
+ghost use Rattle.inputs.specs.Rules.{remainder, digit, rest, Reached, Admitted};
+ghost use Rattle.inputs.specs.Signs.{signed, carryValue};
 ghost use Rattle.recoding.specs.Windows.{below};
 use crate::digit::Digit;
-use crate::power::power;
 use crate::power::scaled;
-use crate::rule::SignRule;
-use crate::sign::Carry;
-use crate::sign::Choice;
-use crate::sign::Sign;
-use crate::sizes::Sizes;
+use inputs::rule::SignRule;
+use inputs::sign::Carry;
+use inputs::sign::Choice;
+use inputs::sign::Sign;
+use inputs::sizes::Sizes;
 
 // A window's digit, what it adds to the window above, and what it leaves to the one below.
 #[derive(Clone, Copy)]
@@ -34,13 +33,16 @@ pub(crate) fn cut<R: SignRule>(rule: &R, sizes: Sizes, h: i64, s: u32) -> Window
     ensures left { λ r. ⌜ r .left ≡ rest (sizes .k) (sizes .b) h s (R·SignRule .rule (now (rule .entry)) .choose (sizes .k) (sizes .b) h s) ⌝ }
 {
     let choice = rule.choose(sizes, h, s);
-    let width = sizes.draw_width();
+    let unit = sizes.unit();
     let r = remain(sizes, h, s, choice);
-    let value = r / power(width);
+    let value = r / unit;
     Window {
-        digit: Digit { value: value as i32, sign: choice.sign },
+        digit: Digit {
+            value: value as i32,
+            sign: choice.sign,
+        },
         carry: choice.carry,
-        left: r - scaled(width, value),
+        left: r - scaled(unit, value),
     }
 }
 
@@ -51,8 +53,7 @@ fn remain(sizes: Sizes, h: i64, s: u32, choice: Choice) -> i64
     ensures least { λ r. ⌜ negℤ (pos (2 ^ 40)) ≤ℤ r ⌝ }
     ensures most { λ r. ⌜ r ≤ℤ pos (2 ^ 40) ⌝ }
 {
-    let span = power(sizes.window_width() + sizes.draw_width());
-    h - times_sign(s, choice.sign) - times_carry(span, choice.carry)
+    h - times_sign(s, choice.sign) - times_carry(sizes.span(), choice.carry)
 }
 
 // The draw with a sign.
@@ -82,5 +83,5 @@ pub(crate) fn join(sizes: Sizes, left: i64, bits: u32) -> i64
     requires { ⌜ negℤ (pos (2 ^ 30)) ≤ℤ left ⌝ ∗ ⌜ left ≤ℤ pos (2 ^ 30) ⌝ }
     ensures { λ r. ⌜ r ≡ below (sizes .k) bits left ⌝ }
 {
-    scaled(sizes.window_width(), left) + bits as i64
+    scaled(sizes.step(), left) + bits as i64
 }

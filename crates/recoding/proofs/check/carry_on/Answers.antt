@@ -1,4 +1,5 @@
-use Prim.Native.Nat.{ℕ, _^_, _<_}
+use Prim.Native.Nat.{_^_, _<_, _≤_}
+use lib.Pow.{pow-mono}
 use borrow.Author.Needs.{needs}
 use lib.IntN.{ℤ, pos, _+ℤ_, _-ℤ_, _*ℤ_}
 use mathlib.Core.Path.{_≡_, sym, ap, ap₂, _∙_, subst}
@@ -9,10 +10,22 @@ use Rattle.std.proofs.shelf.Signed.{ints, toZ-ofZ}
 use Rattle.recoding.specs.Codings.{reached}
 use Rattle.recoding.specs.Digits.{decoded}
 use Rattle.recoding.specs.Powers.{Divided}
-use Rattle.recoding.specs.Signs.{signed}
+use Rattle.inputs.specs.Signs.{signed}
 use Rattle.recoding.proofs.Machine.{About, sums}
 use Rattle.recoding.proofs.Windows.{signed-small}
 use Rattle.recoding.proofs.check.carry_on.Needs as need
+
+pub scaled-requires : need.scaled-requires
+scaled-requires c κs =
+    let v : SFits w32 (c .decode-digit .result .value) = search needs in
+    let p : 2 ^ c .args .sizes .b ≤ 2 ^ 30 = pow-mono (c .args .sizes .«b_most») in
+    record { factor = (omega (arith, ints, c .unit .ensures), omega (arith, ints, c .unit .ensures)); small = (omega (arith, ints, v), omega (arith, ints, v)) }
+
+pub divided-requires : need.divided-requires
+divided-requires c κs =
+    let p : 2 ^ 2 ≤ 2 ^ c .args .sizes .k = pow-mono (c .args .sizes .«k_least») in
+    let q : 2 ^ c .args .sizes .k ≤ 2 ^ 6 = pow-mono (c .args .sizes .«k_most») in
+    omega (arith, ints, c .step .ensures)
 
 -- the signed draw, as it was computed, is small
 draw-about : (c : need.After-times-sign) → About (2 ^ 32) (c .times-sign .result)
@@ -37,10 +50,11 @@ returns c =
     let v : SFits w32 (c .decode-digit .result .value) = search needs in
     let ed = c .decode-digit .ensures ∙ ap decoded (toZ-ofZ w32 (c .args .word) (c .fits .word)) in
     let x = ap (λ (y : ℤ). toZ w64 (ofZ w64 y)) (toZ-ofZ w32 (c .decode-digit .result .value) v) ∙ toZ-ofZ w64 (c .decode-digit .result .value) (omega (arith, ints, v)) in
-    let es = c .scaled .ensures .is ∙ ap₂ (λ (n : ℕ) (y : ℤ). pos (2 ^ n) *ℤ y) (c .draw-width .ensures) x in
+    let es = c .scaled .ensures .is ∙ ap₂ (λ (u y : ℤ). u *ℤ y) (toZ-ofZ w64 (c .unit .result) (search needs) ∙ c .unit .ensures) x in
     let r = q ∙ ap₂ (λ (t g : ℤ). c .args .carried +ℤ t +ℤ g -ℤ pos (c .args .bits)) es e ∙ ap (reached (c .args .sizes .b) (c .args .s) (c .args .bits) (c .args .carried)) ed in
-    record
-      { divided =
-          subst (λ (k : ℕ). Divided k (reached (c .args .sizes .b) (c .args .s) (c .args .bits) (c .args .carried) (decoded (c .args .word))) (c .divided .result)) (c .window-width .ensures)
-            (subst (λ (y : ℤ). Divided (c .window-width .result) y (c .divided .result)) r (c .divided .ensures .divided))
-      ; small = c .divided .ensures .small }
+    record {
+      divided =
+          subst (λ (u : ℤ). Divided u (reached (c .args .sizes .b) (c .args .s) (c .args .bits) (c .args .carried) (decoded (c .args .word))) (c .divided .result)) (toZ-ofZ w64 (c .step .result) (search needs) ∙ c .step .ensures)
+          (subst (λ (y : ℤ). Divided (toZ w64 (ofZ w64 (c .step .result))) y (c .divided .result)) r (c .divided .ensures .divided));
+      small = c .divided .ensures .small;
+    }

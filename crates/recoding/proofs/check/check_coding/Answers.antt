@@ -14,8 +14,8 @@ use Rattle.std.proofs.shelf.Signed.{toZ-ofZ}
 use Rattle.std.specs.Orderings.{Decides}
 use Rattle.recoding.specs.Codings.{Within, digitsRefusal}
 use Rattle.recoding.specs.Digits.{decoded}
-use Rattle.recoding.specs.Keys.{half, keyRefusal}
-use Rattle.recoding.specs.Rules.{Rule}
+use Rattle.inputs.specs.Keys.{half, keyRefusal}
+use Rattle.inputs.specs.Rules.{Rule}
 use Rattle.recoding.proofs.Checking.{Equation, verdict}
 use Rattle.recoding.proofs.Tests.{both-pass, key-below, words-enough}
 use Rattle.recoding.proofs.check.check_coding.Needs as need
@@ -48,11 +48,12 @@ returns g c =
     let f : SFits w32 (c .args .correction) = c .fits .correction in
     let ws : take (c .windows .result - 0) (c .args .words .now) ≡ take (z .m) (c .args .words .now) = ap (λ (n : ℕ). take n (c .args .words .now)) (sub-zero (c .windows .result) ∙ c .windows .ensures) in
     let lo = toZ-ofZ w32 (c .lo .result) (search needs) ∙ c .lo .ensures in
-    let hi = toZ-ofZ w32 (c .hi .result) (search needs) ∙ c .hi .ensures in
-    ( c .in-Continue-check-lent .ensures tt
-    , verdict R z (half (c .args .key .now)) (c .args .s) (c .args .correction) (map decoded (take (z .m) (c .args .words .now)))
-        (c .draw-admitted-drawn .result) (c .correction-small-small .result) (c .within-limits-within .result) (c .equation-holds-holds .result)
-        (c .draw-admitted-drawn .ensures)
-        (simp toZ-ofZ at (c .correction-small-small .ensures))
-        (limits-by (c .within-limits-within .result) lo hi ws (c .within-limits-within .ensures))
-        (equation-by (z .k) (z .b) (c .args .s) (half (c .args .key .now)) (c .equation-holds-holds .result) (toZ-ofZ w32 (c .args .correction) f) ws (c .equation-holds-holds .ensures)) )
+    let hi = toZ-ofZ w32 (c .hi .result) (search needs) ∙ c .hi .ensures in (
+      c .in-Continue-check-lent .ensures tt,
+      verdict R z (half (c .args .key .now)) (c .args .s) (c .args .correction) (map decoded (take (z .m) (c .args .words .now)))
+          (c .draw-admitted-drawn .result) (c .correction-small-small .result) (c .within-limits-within .result) (c .equation-holds-holds .result)
+          (c .draw-admitted-drawn .ensures)
+          (simp toZ-ofZ at (c .correction-small-small .ensures))
+          (limits-by (c .within-limits-within .result) lo hi ws (c .within-limits-within .ensures))
+          (equation-by (z .k) (z .b) (c .args .s) (half (c .args .key .now)) (c .equation-holds-holds .result) (toZ-ofZ w32 (c .args .correction) f) ws (c .equation-holds-holds .ensures)),
+    )

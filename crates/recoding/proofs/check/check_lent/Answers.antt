@@ -1,7 +1,7 @@
 use mathlib.Core.Path.{_∙_}
 use native.Mathlib.Omega.{arith}
 use Rattle.recoding.specs.Codings.{digitsRefusal}
-use Rattle.recoding.specs.Keys.{keyRefusal}
+use Rattle.inputs.specs.Keys.{keyRefusal}
 use Rattle.recoding.proofs.Tests.{first-passes, words-refused, words-taken}
 use Rattle.recoding.proofs.check.check_lent.Needs as need
 

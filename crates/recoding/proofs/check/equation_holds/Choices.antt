@@ -1,7 +1,7 @@
 use lib.ListN.{drop}
 use mathlib.Core.List.{map}
 use Rattle.recoding.specs.Digits.{decoded}
-use Rattle.recoding.specs.Keys.{half}
+use Rattle.inputs.specs.Keys.{half}
 use Rattle.recoding.proofs.Checking.{Equation, Rest}
 use Rattle.recoding.proofs.Machine.{About}
 use Prim.Native.Nat.{_^_}

@@ -3,8 +3,8 @@ use mathlib.Core.Bool.{Bool}
 use mathlib.Core.Path.{_≡_, _∙_, sym, ap}
 use native.Mathlib.Omega.{arith}
 use Rattle.recoding.specs.Codings.{checkRefusal}
-use Rattle.recoding.specs.Draws.{drawRefusal}
-use Rattle.recoding.specs.Rules.{Rule}
+use Rattle.inputs.specs.Draws.{drawRefusal}
+use Rattle.inputs.specs.Rules.{Rule}
 use Rattle.recoding.proofs.Tests.{first-passes, draw-taken, width-refused, value-refused}
 use Rattle.recoding.proofs.recode.check_recoding.Needs as need
 

@@ -11,8 +11,8 @@ use native.Mathlib.Omega.{arith}
 use Rattle.std.proofs.shelf.Lists.{length-take}
 use Rattle.std.proofs.shelf.Signed.{toZ-ofZ}
 use Rattle.recoding.specs.Digits.{encoded}
-use Rattle.recoding.specs.Keys.{scalar, half}
-use Rattle.recoding.specs.Rules.{Rule, Admitted}
+use Rattle.inputs.specs.Keys.{scalar, half}
+use Rattle.inputs.specs.Rules.{Rule, Admitted}
 use Rattle.recoding.specs.Windows.{recoding}
 use Rattle.recoding.proofs.Loop.{coding-in}
 use Rattle.recoding.proofs.Tests.{Lent, lent}
@@ -28,10 +28,11 @@ pub recode-windows-correction-requires : need.recode-windows-correction-requires
 recode-windows-correction-requires g c κs =
     let R : Rule = g .R·SignRule .rule (c .args .rule .now) in
     let l = lent R (c .args .sizes) (c .args .key .now) (length (c .args .words .now)) (c .args .draw) (c .in-rest .ensures tt) in
-    record
-      { count = simp length-take (omega (arith, l .enough))
-      ; admitted = subst (Admitted R (c .args .sizes .k) (c .args .sizes .b)) (sym (c .value .ensures)) (l .admitted)
-      ; key = l .below }
+    record {
+      count = simp length-take (omega (arith, l .enough));
+      admitted = subst (Admitted R (c .args .sizes .k) (c .args .sizes .b)) (sym (c .value .ensures)) (l .admitted);
+      key = l .below;
+    }
 
 pub returns : need.returns
 returns g c =
@@ -46,9 +47,10 @@ returns g c =
     let ec = toZ-ofZ w32 _ f ∙ c .recode-windows-correction .ensures .correction ∙ ap (λ (x : ℕ). recoding R z x (d / 2) .left) (c .value .ensures) in
     let n : length (c .recode-windows-correction .last .words) ≡ z .m = c .recode-windows-correction .kept .words ∙ simp length-take (omega (arith, l .enough)) in
     let p = post-is 0 (c .windows-count .result) (c .args .words .now) zero-le ∙ ap (λ (x : ℕ). drop x (c .args .words .now)) (c .windows-count .ensures) in
-    record
-      { untested = c .in-rest .ensures tt
-      ; draw = refl
-      ; correction = ec
-      ; words = ap₂ _++_ ew p
-      ; coding = coding-in R z s d L (l .admitted) (l .below) (c .recode-windows-correction .last .words) _ _ n ew ec }
+    record {
+      untested = c .in-rest .ensures tt;
+      draw = refl;
+      correction = ec;
+      words = ap₂ _++_ ew p;
+      coding = coding-in R z s d L (l .admitted) (l .below) (c .recode-windows-correction .last .words) _ _ n ew ec;
+    }

@@ -3,7 +3,7 @@ use lib.ListN.{length, drop}
 use mathlib.Core.List.{map}
 use mathlib.Core.Path.{_≡_}
 use Rattle.recoding.specs.Digits.{encoded}
-use Rattle.recoding.specs.Keys.{half}
+use Rattle.inputs.specs.Keys.{half}
 use Rattle.recoding.proofs.Loop.{standing}
 use Rattle.recoding.proofs.recode.recode_windows.Given as given
 

@@ -15,9 +15,9 @@ sub-result c =
 
 parts : (c : need.After-times-carry) → Remains (c .args .sizes .k) (c .args .sizes .b) (c .args .s) (c .args .h) (c .times-sign .result) (c .times-carry .result) (c .args .choice)
 parts c =
-    remains (c .args .sizes .k) (c .args .sizes .b) (c .args .s) (c .window-width .result) (c .draw-width .result) (c .args .h) (c .power-span .result) (c .times-sign .result) (c .times-carry .result) (c .args .choice)
-      (remainder-small (c .args .sizes .k) (c .args .sizes .b) (c .args .s) (c .args .h) (c .args .choice) (omega arith, omega arith, omega arith, omega arith) (c .fits .s .fits) (c .pre .reached))
-      (c .window-width .ensures) (c .draw-width .ensures) (c .power-span .ensures) (c .times-sign .ensures) (c .times-carry .ensures)
+    remains (c .args .sizes .k) (c .args .sizes .b) (c .args .s) (c .args .h) (c .span .result) (c .times-sign .result) (c .times-carry .result) (c .args .choice)
+    (remainder-small (c .args .sizes .k) (c .args .sizes .b) (c .args .s) (c .args .h) (c .args .choice) (omega arith, omega arith, omega arith, omega arith) (c .fits .s .fits) (c .pre .reached))
+    (c .span .ensures) (c .times-sign .ensures) (c .times-carry .ensures)
 
 pub sub-result-2 : need.sub-result-2
 sub-result-2 c = parts c .fits
@@ -25,7 +25,8 @@ sub-result-2 c = parts c .fits
 pub returns : need.returns
 returns c =
     let t = parts c in
-    record
-      { is = t .is
-      ; least = subst (λ (z : ℤ). negℤ (pos (2 ^ 40)) ≤ℤ z) (sym (t .is)) (t .about .0)
-      ; most = subst (λ (z : ℤ). z ≤ℤ pos (2 ^ 40)) (sym (t .is)) (t .about .1) }
+    record {
+      is = t .is;
+      least = subst (λ (z : ℤ). negℤ (pos (2 ^ 40)) ≤ℤ z) (sym (t .is)) (t .about .0);
+      most = subst (λ (z : ℤ). z ≤ℤ pos (2 ^ 40)) (sym (t .is)) (t .about .1);
+    }

@@ -1,5 +1,0 @@
-use Rattle.recoding.proofs.Tables.{lawful}
-use Rattle.recoding.proofs.window_rule.WindowRuleSigns.the-impl.Needs as need
-
-pub lawful-law : need.lawful-law
-lawful-law x = lawful x

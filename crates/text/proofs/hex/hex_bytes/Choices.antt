@@ -1,0 +1,10 @@
+use lib.ListN.{length}
+use Rattle.std.specs.Of.Vec.{vec-items}
+use Rattle.text.proofs.Grouping.{BytesLeft}
+use Rattle.text.proofs.hex.hex_bytes.Given as given
+
+abbrev pub Inv-loop-rest : given.InvT-loop-rest
+Inv-loop-rest l = BytesLeft (l .text) (vec-items (l .bytes)) (l .rest)
+
+abbrev pub μ-loop-rest : given.MeasureT-loop-rest
+μ-loop-rest l = length (l .rest)
