@@ -51,11 +51,12 @@ module _ (z : Sizes) (q : Asked) (d : Draw) where
     recoded c s x v es ex dv fd fc fw fv =
         let drawn : s ≡ d .value = es ∙ ap (λ (y : Draw). y .value) (a .draw) in
         let keyed = ap (λ (k : List ℕ). recoding R z (d .value) (half k)) ek in
-        subst (λ (o : Option Refusal). Unless o (Codes z q (d .value)) (Recoded c)) (sym taken) (record
-          { draw = fd ∙ drawn
-          ; correction = fc ∙ ex ∙ a .correction ∙ ap (λ (y : State). y .left) keyed
-          ; words = fw ∙ a .words ∙ ap₂ (λ (y : State) (l : List ℤ). map encoded (y .digits) ++ l) keyed none ∙ append-nil _
-          ; verdict = fv ∙ dv .1 (same-coding (ap half (ek ∙ sym ek′)) (sym drawn) (sym ex) (ap (digitsIn z) (sym ew)) (a .coding)) })
+        subst (λ (o : Option Refusal). Unless o (Codes z q (d .value)) (Recoded c)) (sym taken) (record {
+          draw = fd ∙ drawn;
+          correction = fc ∙ ex ∙ a .correction ∙ ap (λ (y : State). y .left) keyed;
+          words = fw ∙ a .words ∙ ap₂ (λ (y : State) (l : List ℤ). map encoded (y .digits) ++ l) keyed none ∙ append-nil _;
+          verdict = fv ∙ dv .1 (same-coding (ap half (ek ∙ sym ek′)) (sym drawn) (sym ex) (ap (digitsIn z) (sym ew)) (a .coding));
+        })
 
   -- a refused one: with words enough and a fit draw, only the key can be refused
   pub refused : (e : Refusal) (key : List ℕ) (before : List ℤ) → key ≡ q .key → before ≡ zeros (z .m) → drawRefusal R z d ≡ None → recodeRefusal R z key (length before) d ≡ Some e →
@@ -65,6 +66,7 @@ module _ (z : Sizes) (q : Asked) (d : Draw) where
     where
       enough : digitsRefusal z (length before) ≡ None
       enough = words-taken z (length before) (omega (arith, ap length eb, length-replicate (z .m) (pos 0)))
+
       by : (k : Option Refusal) → orElse (orElse k None) None ≡ Some e → Unless k (Codes z q (d .value)) (Refused e)
       by None p = absurd (let x : _≡_ {A = ℕ} 0 1 = cc in omega arith)
       by (Some f) p = cc

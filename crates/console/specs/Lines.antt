@@ -48,6 +48,11 @@ abbrev pub kindOf : Answer → Kind
 kindOf (Recoded c) = kinds.Recoded
 kindOf (Refused e) = kinds.Refused
 
+-- what comes behind a line, nothing where it is the last one
+abbrev pub orNone : Option (List ℕ) → List ℕ
+orNone None = []
+orNone (Some rest) = rest
+
 -- a line without one carriage return at its end
 abbrev pub trimmed : List ℕ → List ℕ
 trimmed line = cond (eqb (getD line (length line - 1) 0) 13) (take (length line - 1) line) line

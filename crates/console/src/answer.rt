@@ -67,13 +67,31 @@ fn answer_drawn(request: &Request, sizes: Sizes, draw: Draw, words: Vec<i32>) ->
     ensures { λ r. ⌜ Drawn sizes (view (now (request .entry))) (draw .value) r ⌝ }
 {
     let mut words = words;
-    match recode(&request.rule, sizes, request.key.as_slice(), draw, words.as_mut_slice()) {
+    match recode(
+        &request.rule,
+        sizes,
+        request.key.as_slice(),
+        draw,
+        words.as_mut_slice(),
+    ) {
         Ok(coded) => {
             let s = coded.draw_value();
             let correction = coded.correction();
             coded.end();
-            match check_coding(&request.rule, sizes, request.key.as_slice(), s, correction, words.as_slice()) {
-                Ok(verdict) => Answer::Recoded(Recoding { draw: s, correction, words, verdict }),
+            match check_coding(
+                &request.rule,
+                sizes,
+                request.key.as_slice(),
+                s,
+                correction,
+                words.as_slice(),
+            ) {
+                Ok(verdict) => Answer::Recoded(Recoding {
+                    draw: s,
+                    correction,
+                    words,
+                    verdict,
+                }),
                 Err(refusal) => Answer::Refused(refusal),
             }
         }

@@ -1,7 +1,10 @@
 //! The lines that `recode` prints.
 ghost use mathlib.Core.List.{_++_};
 ghost use mathlib.Core.Path.{_≡_};
-ghost use Rattle.console.specs.Lines.{spaced, refusalText, recodingText, verdictText, answerText, kindOf, trimmed, LineAnswered};
+ghost use Prim.Native.Nat.{_<_};
+ghost use lib.ListN.{length};
+ghost use Rattle.text.specs.Fields.{before, behind};
+ghost use Rattle.console.specs.Lines.{orNone, spaced, refusalText, recodingText, verdictText, answerText, kindOf, trimmed, LineAnswered};
 ghost use Rattle.std.specs.Of.Vec.{vec-items};
 ghost use Rattle.std.specs.Vec.{made};
 use crate::answer::Answer;
@@ -10,6 +13,7 @@ use crate::request::Request;
 use common::refusal::Refusal;
 use std::alloc::AllocError;
 use std::alloc::Global;
+use text::fields::cut;
 use text::write::push_number;
 use text::write::push_signed;
 
@@ -19,6 +23,19 @@ pub enum Kind {
     Recoded,
     Refused,
     Unreadable,
+}
+
+/// The first line of a text, without its line feed, and what comes behind it.
+pub fn next_line<'a>(text: &'a [u8]) -> (&'a [u8], &'a [u8])
+    ensures line { λ r. ⌜ now (r .0) ≡ before 10 (now (text .entry)) ⌝ }
+    ensures rest { λ r. ⌜ now (r .1) ≡ orNone (behind 10 (now (text .entry))) ⌝ }
+    ensures shorter { λ r. ⌜ (0 < length (now (text .entry)) → length (now (r .1)) < length (now (text .entry))) ⌝ }
+{
+    let (line, rest) = cut(text, b'\n');
+    match rest {
+        Some(rest) => (line, rest),
+        None => (line, &text[text.len()..]),
+    }
 }
 
 /// Answers a line and appends what it says to `out`, with a line feed. Answers `Err` only where
@@ -41,7 +58,11 @@ fn trim<'a>(line: &'a [u8]) -> &'a [u8]
     ensures { λ r. ⌜ now r ≡ trimmed (now (line .entry)) ⌝ }
 {
     let count = line.len();
-    if count > 0 && line[count - 1] == b'\r' { &line[0..count - 1] } else { line }
+    if count > 0 && line[count - 1] == b'\r' {
+        &line[0..count - 1]
+    } else {
+        line
+    }
 }
 
 // How an answer is counted.
@@ -94,7 +115,11 @@ fn write_recoding(out: &mut Vec<u8>, recoding: &Recoding) -> Result<(), AllocErr
 fn write_verdict(out: &mut Vec<u8>, verdict: bool) -> Result<(), AllocError>
     ensures { λ r. ⌜ made r (λ _. vec-items (now (out .exit)) ≡ vec-items (now (out .entry)) ++ verdictText verdict) ⌝ }
 {
-    if verdict { out.extend_from_slice(b" yes") } else { out.extend_from_slice(b" no") }
+    if verdict {
+        out.extend_from_slice(b" yes")
+    } else {
+        out.extend_from_slice(b" no")
+    }
 }
 
 // Appends the words, a space before each.

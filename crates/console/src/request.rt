@@ -46,7 +46,14 @@ impl Request {
         let Some(KeyDraws { key, draws }) = key_draws(heap, rest)? else {
             return Ok(None);
         };
-        Ok(Some(Request { rule, window_width, draw_width, windows, key, draws }))
+        Ok(Some(Request {
+            rule,
+            window_width,
+            draw_width,
+            windows,
+            key,
+            draws,
+        }))
     }
 }
 

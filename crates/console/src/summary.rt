@@ -23,7 +23,11 @@ impl Summary {
         ensures refused { λ r. ⌜ r .refused ≡ 0 ⌝ }
         ensures unreadable { λ r. ⌜ r .unreadable ≡ 0 ⌝ }
     {
-        Summary { recoded: 0, refused: 0, unreadable: 0 }
+        Summary {
+            recoded: 0,
+            refused: 0,
+            unreadable: 0,
+        }
     }
 
     /// One line more.
@@ -31,9 +35,18 @@ impl Summary {
         ensures { λ r. ⌜ r ≡ counted self kind ⌝ }
     {
         match kind {
-            Kind::Recoded => Summary { recoded: self.recoded.saturating_add(1), ..self },
-            Kind::Refused => Summary { refused: self.refused.saturating_add(1), ..self },
-            Kind::Unreadable => Summary { unreadable: self.unreadable.saturating_add(1), ..self },
+            Kind::Recoded => Summary {
+                recoded: self.recoded.saturating_add(1),
+                ..self
+            },
+            Kind::Refused => Summary {
+                refused: self.refused.saturating_add(1),
+                ..self
+            },
+            Kind::Unreadable => Summary {
+                unreadable: self.unreadable.saturating_add(1),
+                ..self
+            },
         }
     }
 

@@ -13,12 +13,12 @@ returns-in-Ok-check-coding c =
     let f : SFits w32 (c .correction-correction .result) = search needs in
     let held = refilled-is (c .args .words) (c .recode .last .words) (c .recode .kept .words ∙ c .as-mut-slice .ensures .len) in
     recoded (c .args .sizes) (view (c .args .request .now)) (c .args .draw)
-      (c .as-slice .result .now) (c .as-slice-in-Ok .result .now) (c .in-Ok .coded) (c .as-mut-slice .result .now) (c .recode .last .words) (c .as-slice-in-Ok-2 .result .now)
-      (c .as-slice .ensures .value) (c .as-slice-in-Ok .ensures .value) (c .as-mut-slice .ensures .value ∙ c .pre .room) (c .as-slice-in-Ok-2 .ensures .value ∙ held) (c .in-Ok .ensures tt)
-      _ (c .draw-value-s .result) _ (c .in-Ok-check-coding .verdict) (c .draw-value-s .ensures) (toZ-ofZ w32 _ f ∙ c .correction-correction .ensures) (c .in-Ok-check-coding .ensures tt .1)
-      refl refl held refl
+    (c .as-slice .result .now) (c .as-slice-in-Ok .result .now) (c .in-Ok .coded) (c .as-mut-slice .result .now) (c .recode .last .words) (c .as-slice-in-Ok-2 .result .now)
+    (c .as-slice .ensures .value) (c .as-slice-in-Ok .ensures .value) (c .as-mut-slice .ensures .value ∙ c .pre .room) (c .as-slice-in-Ok-2 .ensures .value ∙ held) (c .in-Ok .ensures tt)
+    _ (c .draw-value-s .result) _ (c .in-Ok-check-coding .verdict) (c .draw-value-s .ensures) (toZ-ofZ w32 _ f ∙ c .correction-correction .ensures) (c .in-Ok-check-coding .ensures tt .1)
+    refl refl held refl
 
 pub returns-in-Err : need.returns-in-Err
 returns-in-Err c =
     refused (c .args .sizes) (view (c .args .request .now)) (c .args .draw) (c .in-Err .back .0) (c .as-slice .result .now) (c .as-mut-slice .result .now)
-      (c .as-slice .ensures .value) (c .as-mut-slice .ensures .value ∙ c .pre .room) (c .pre .fit) (c .in-Err .ensures tt .0)
+    (c .as-slice .ensures .value) (c .as-mut-slice .ensures .value ∙ c .pre .room) (c .pre .fit) (c .in-Err .ensures tt .0)

@@ -26,4 +26,4 @@ returns c =
     let e = asks (c .args .line .now) (c .trim .result .now) (c .in-Continue-request .field-0) (c .trim .ensures) (c .in-Continue-request .ensures tt) ∙ ap (mapped view) (c .in-Some .is) in
     let t = c .in-Continue-extend-from-slice-2 .ensures tt .items ∙ ap (λ (l : List ℕ). l ++ codes "\n") (c .in-Continue-write-answer .ensures tt) in
     subst (λ (o : Option Asked). Said o (c .kind-of .result) (vec-items (c .args .out .now)) (vec-items (c .extend-from-slice-2 .last .self))) (sym e)
-      (c .in-Continue-answer .answer, c .in-Continue-answer .ensures tt, c .kind-of .ensures, t)
+    (c .in-Continue-answer .answer, c .in-Continue-answer .ensures tt, c .kind-of .ensures, t)

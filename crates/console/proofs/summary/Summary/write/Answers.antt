@@ -7,9 +7,9 @@ use Rattle.console.proofs.summary.Summary.write.Needs as need
 pub returns : need.returns
 returns c =
     six (vec-items (c .args .out .now)) (decimal (c .args .self .recoded)) (codes " keys recoded and checked, ") (decimal (c .args .self .refused)) (codes " refused, ") (decimal (c .args .self .unreadable)) (codes " unreadable\n")
-      (c .in-Continue-push-number .ensures tt .items)
-      (c .in-Continue-extend-from-slice .ensures tt .items)
-      (c .in-Continue-push-number-2 .ensures tt .items)
-      (c .in-Continue-extend-from-slice-2 .ensures tt .items)
-      (c .in-Continue-push-number-3 .ensures tt .items)
-      (c .in-Continue-extend-from-slice-3 .ensures tt .items)
+    (c .in-Continue-push-number .ensures tt .items)
+    (c .in-Continue-extend-from-slice .ensures tt .items)
+    (c .in-Continue-push-number-2 .ensures tt .items)
+    (c .in-Continue-extend-from-slice-2 .ensures tt .items)
+    (c .in-Continue-push-number-3 .ensures tt .items)
+    (c .in-Continue-extend-from-slice-3 .ensures tt .items)
