@@ -1,0 +1,9 @@
+pub mod Tally
+pub mod Groups
+pub mod SetUp
+pub mod Residues
+pub mod Sums
+pub mod Clock
+pub mod Curve
+pub mod Multiples
+pub mod Worked
