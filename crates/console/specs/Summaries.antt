@@ -11,11 +11,13 @@ use Rattle.std.specs.Written.{decimal}
 abbrev pub more : ℕ → ℕ
 more n = min (n + 1) (2 ^ 64 - 1)
 
+-- one line more of a kind
 abbrev pub counted : Summary → Kind → Summary
 counted s Recoded = record { recoded = more (s .recoded); refused = s .refused; unreadable = s .unreadable }
 counted s Refused = record { recoded = s .recoded; refused = more (s .refused); unreadable = s .unreadable }
 counted s Unreadable = record { recoded = s .recoded; refused = s .refused; unreadable = more (s .unreadable) }
 
-abbrev pub summaryText : Summary → List ℕ
-summaryText s =
-    decimal (s .recoded) ++ codes " keys recoded and checked, " ++ decimal (s .refused) ++ codes " refused, " ++ decimal (s .unreadable) ++ codes " unreadable\n"
+-- the counts in words, as a line
+abbrev pub countsText : (recoded refused unreadable : ℕ) → List ℕ
+countsText recoded refused unreadable =
+    decimal recoded ++ codes " keys recoded and checked, " ++ decimal refused ++ codes " refused, " ++ decimal unreadable ++ codes " unreadable\n"

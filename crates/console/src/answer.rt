@@ -75,9 +75,7 @@ fn answer_drawn(request: &Request, sizes: Sizes, draw: Draw, words: Vec<i32>) ->
         words.as_mut_slice(),
     ) {
         Ok(coded) => {
-            let s = coded.draw_value();
-            let correction = coded.correction();
-            coded.end();
+            let (s, correction) = coded.end();
             match check_coding(
                 &request.rule,
                 sizes,

@@ -1,7 +1,7 @@
 //! What `recode` did, in numbers and in words.
 ghost use mathlib.Core.List.{_++_};
 ghost use mathlib.Core.Path.{_≡_};
-ghost use Rattle.console.specs.Summaries.{counted, summaryText};
+ghost use Rattle.console.specs.Summaries.{counted, countsText};
 ghost use Rattle.std.specs.Of.Vec.{vec-items};
 ghost use Rattle.std.specs.Vec.{made};
 use crate::line::Kind;
@@ -52,14 +52,26 @@ impl Summary {
 
     /// Appends the summary as a line.
     pub fn write(self, out: &mut Vec<u8>) -> Result<(), AllocError>
-        ensures { λ r. ⌜ made r (λ _. vec-items (now (out .exit)) ≡ vec-items (now (out .entry)) ++ summaryText self) ⌝ }
+        ensures { λ r. ⌜ made r (λ _. vec-items (now (out .exit)) ≡ vec-items (now (out .entry)) ++ countsText (self .recoded) (self .refused) (self .unreadable)) ⌝ }
     {
-        push_number(out, self.recoded)?;
-        out.extend_from_slice(b" keys recoded and checked, ")?;
-        push_number(out, self.refused)?;
-        out.extend_from_slice(b" refused, ")?;
-        push_number(out, self.unreadable)?;
-        out.extend_from_slice(b" unreadable\n")?;
-        Ok(())
+        write_counts(out, self.recoded, self.refused, self.unreadable)
     }
+}
+
+// Appends the counts in words.
+fn write_counts(
+    out: &mut Vec<u8>,
+    recoded: u64,
+    refused: u64,
+    unreadable: u64,
+) -> Result<(), AllocError>
+    ensures { λ r. ⌜ made r (λ _. vec-items (now (out .exit)) ≡ vec-items (now (out .entry)) ++ countsText recoded refused unreadable) ⌝ }
+{
+    push_number(out, recoded)?;
+    out.extend_from_slice(b" keys recoded and checked, ")?;
+    push_number(out, refused)?;
+    out.extend_from_slice(b" refused, ")?;
+    push_number(out, unreadable)?;
+    out.extend_from_slice(b" unreadable\n")?;
+    Ok(())
 }

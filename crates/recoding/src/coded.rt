@@ -24,12 +24,12 @@ impl Coded {
         self.correction
     }
 
-    /// Ends the coded state.
-    pub fn end(self) {
-        let Coded {
-            draw,
-            correction: _,
-        } = self;
-        draw.end();
+    /// Ends the coded state, and gives the number that was drawn and the correction.
+    pub fn end(self) -> (u32, i32)
+        ensures draw { λ r. ⌜ r .0 ≡ self .draw .value ⌝ }
+        ensures correction { λ r. ⌜ r .1 ≡ self .correction ⌝ }
+    {
+        let Coded { draw, correction } = self;
+        (draw.end(), correction)
     }
 }

@@ -7,5 +7,12 @@ pub fn worked_runs() -> u32
     ensures hold { λ _. ⌜ WorkedRuns ⌝ }
     ensures count { λ r. ⌜ r ≡ 5 ⌝ }
 {
+    runs()
+}
+
+// How many runs there are.
+fn runs() -> u32
+    ensures { λ r. ⌜ r ≡ 5 ⌝ }
+{
     5
 }
