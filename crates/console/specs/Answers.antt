@@ -32,6 +32,7 @@ pub record Coded (z : Sizes) (q : Asked) (s : ℕ) (c : Recoding) : Type 0 where
   pub words : vec-items (c .words) ≡ map encoded (recoding (ruleOf (q .rule)) z s (half (q .key)) .digits)
   pub verdict : c .verdict ≡ true
 
+-- the answer is such a recoding
 abbrev pub Codes : Sizes → Asked → ℕ → Answer → Type 0
 Codes z q s (Recoded c) = Coded z q s c
 Codes z q s (Refused e) = ⊥
@@ -50,6 +51,7 @@ abbrev pub ByDraw : Option Found → Sizes → Asked → Answer → Type 0
 ByDraw None z q = Says (DrawsExhausted 0)
 ByDraw (Some f) z q = Drawn z q (f .value)
 
+-- with the sizes z, the draw is taken from the request's bytes
 abbrev pub Sized : Sizes → Asked → Answer → Type 0
 Sized z q = ByDraw (firstDraw (ruleOf (q .rule)) z (q .draws) 0) z q
 

@@ -39,6 +39,7 @@ verdictText false = codes " no"
 abbrev pub recodingText : Recoding → List ℕ
 recodingText c = codes "ok " ++ decimal (c .draw) ++ codes " " ++ signed (c .correction) ++ spaced (vec-items (c .words)) ++ verdictText (c .verdict)
 
+-- the text of an answer
 abbrev pub answerText : Answer → List ℕ
 answerText (Recoded c) = recodingText c
 answerText (Refused e) = refusalText e
@@ -62,5 +63,6 @@ abbrev pub Said : Option Asked → Kind → List ℕ → List ℕ → Type 0
 Said None kind before after = (kind ≡ kinds.Unreadable) × (after ≡ before ++ codes "unreadable\n")
 Said (Some q) kind before after = (a : Answer) × (Answered q a) × (kind ≡ kindOf a) × (after ≡ before ++ answerText a ++ codes "\n")
 
+-- what a line, as it stands in the input, adds to the output, and how it is counted
 abbrev pub LineAnswered : List ℕ → List ℕ → List ℕ → Kind → Type 0
 LineAnswered line before after kind = Said (requested (trimmed line)) kind before after

@@ -25,6 +25,7 @@ pub record Asked : Type 0 where
   pub key : List ℕ
   pub draws : List ℕ
 
+-- what a request holds, as plain values
 abbrev pub view : Request → Asked
 view r = record { rule = r .rule; k = r .«window_width»; b = r .«draw_width»; m = r .windows; key = vec-items (r .key); draws = vec-items (r .draws) }
 
@@ -33,9 +34,11 @@ pub record NumberThen : Type 0 where
   pub number : ℕ
   pub rest : List ℕ
 
+-- such a number at the beginning of a text, if there is one
 abbrev pub numberThen : List ℕ → Option NumberThen
 numberThen text = andThen (behind 32 text) (λ rest. andThen (decimalOf (before 32 text)) (λ n. Some (record { number = n; rest = rest })))
 
+-- a number and a rest that a function returned
 abbrev pub paired : ℕ × RefT (List ℕ) → NumberThen
 paired p = record { number = p .0; rest = p .1 .now }
 
@@ -55,9 +58,11 @@ pub record RuleThen : Type 0 where
   pub rule : WindowRule
   pub rest : List ℕ
 
+-- such a rule at the beginning of a text, if there is one
 abbrev pub ruleThen : List ℕ → Option RuleThen
 ruleThen text = andThen (numberThen text) (λ a. andThen (numbered (a .number)) (λ x. Some (record { rule = x; rest = a .rest })))
 
+-- a rule and a rest that a function returned
 abbrev pub ruled : WindowRule × RefT (List ℕ) → RuleThen
 ruled p = record { rule = p .0; rest = p .1 .now }
 
@@ -66,9 +71,11 @@ pub record KeyThen : Type 0 where
   pub key : List ℕ
   pub draws : List ℕ
 
+-- a key, a space and random bytes to the end of a text, if it has them
 abbrev pub keyDraws : List ℕ → Option KeyThen
 keyDraws text = andThen (behind 32 text) (λ rest. andThen (keyText (before 32 text)) (λ key. andThen (drawsText rest) (λ draws. Some (record { key = key; draws = draws }))))
 
+-- a key and random bytes that a function returned
 abbrev pub keyed : KeyDraws → KeyThen
 keyed p = record { key = vec-items (p .key); draws = vec-items (p .draws) }
 

@@ -28,10 +28,11 @@ drawBytes b = (b + 7) / 8
 abbrev pub drawAt : List ℕ → (b mark : ℕ) → ℕ
 drawAt bytes b mark = lowestFirst (take (drawBytes b) (drop mark bytes)) % 2 ^ b
 
--- where the mark stands after a draw, and how many whole draws are left from a mark on
+-- where the mark stands after a draw
 abbrev pub behind : (b mark : ℕ) → ℕ
 behind b mark = mark + drawBytes b
 
+-- how many whole draws are left from a mark on
 abbrev pub drawsLeft : List ℕ → (b mark : ℕ) → ℕ
 drawsLeft bytes b mark = (length bytes - mark) / drawBytes b
 

@@ -81,11 +81,13 @@ shift Shifted s = s
 shift Centered s = 0
 shift Nonzero s = 0
 
+-- lo of each rule
 abbrev pub lowest : WindowRule → ℤ
 lowest Shifted = negsuc 1
 lowest Centered = negsuc 0
 lowest Nonzero = negsuc 0
 
+-- hi of each rule, by the window width
 abbrev pub highest : WindowRule → ℕ → ℤ
 highest Shifted k = pos (2 ^ (k - 1) + 1)
 highest Centered k = pos (2 ^ (k - 1) + 1)

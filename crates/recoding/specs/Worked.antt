@@ -13,10 +13,11 @@ use Rattle.recoding.specs.Digits.{encoded}
 use Rattle.inputs.specs.Rules.{ruleOf, remainder, digit, rest}
 use Rattle.recoding.specs.Windows.{State, windows}
 
--- a digit with a plus, and one with a minus
+-- a digit with a plus
 abbrev pub plus : ℤ → Digit
 plus w = record { value = w; sign = Plus }
 
+-- a digit with a minus
 abbrev pub minus : ℤ → Digit
 minus w = record { value = w; sign = Minus }
 
