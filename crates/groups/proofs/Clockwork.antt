@@ -108,22 +108,22 @@ module _ (n : ℕ) (two : 2 ≤ n) where
   right p h = comes-to p (clock n .neutral) _ _ (h .x-in) (h .y-in) (equal (omega arith)) (equal (omega arith))
 
   -- what a point and its negative come to: the point's own circle
-  noon-y : (p : ClockPoint) → On n p → Same n (p .y * p .y + (m * p .x) * (m * p .x)) 1
-  noon-y p h = it ⊕ signs some (p .x) (p .x) ⟫ equal (omega arith) ⟫ h .round
+  mirrored-norm : (p : ClockPoint) → On n p → Same n (p .y * p .y + (m * p .x) * (m * p .x)) 1
+  mirrored-norm p h = it ⊕ signs some (p .x) (p .x) ⟫ equal (omega arith) ⟫ h .round
 
   left-inverse : (p : ClockPoint) → On n p → clock n .code (clock-sum n (clock-negative n p) p) ≡ clock n .code (clock n .neutral)
   left-inverse p h =
       let s = negative-x p (h .x-in) in
       comes-to (clock-negative n p) p 0 1 some two
       (s ⊗ it ⊕ it ⟫ equal (omega arith) ⟫ opposite some (p .x * p .y))
-      (it ⊕ it ⊗ (s ⊗ it) ⟫ equal (omega arith) ⟫ noon-y p h)
+      (it ⊕ it ⊗ (s ⊗ it) ⟫ equal (omega arith) ⟫ mirrored-norm p h)
 
   right-inverse : (p : ClockPoint) → On n p → clock n .code (clock-sum n p (clock-negative n p)) ≡ clock n .code (clock n .neutral)
   right-inverse p h =
       let s = negative-x p (h .x-in) in
       comes-to p (clock-negative n p) 0 1 some two
       (it ⊕ it ⊗ s ⟫ equal (omega arith) ⟫ opposite some (p .x * p .y))
-      (it ⊕ it ⊗ (it ⊗ s) ⟫ equal (omega arith) ⟫ noon-y p h)
+      (it ⊕ it ⊗ (it ⊗ s) ⟫ equal (omega arith) ⟫ mirrored-norm p h)
 
   pub clock-lawful : Lawful (clock n)
   clock-lawful = record {

@@ -5,7 +5,7 @@ use Rattle.groups.specs.Curve.{curve, inverse}
 use Rattle.groups.specs.Multiples.{times}
 use Rattle.groups.specs.Residues.{minus}
 use Rattle.groups.specs.Sums.{sums}
-use Rattle.groups.specs.Worked.{hand}
+use Rattle.groups.specs.Worked.{place}
 use Rattle.groups.specs.declared.curve.CurvePoint.the-variants.{Affine}
 
 pub curve-3 : times curve 3 (Affine 2 7) ≡ Affine 8 3
@@ -19,7 +19,7 @@ curve-5 = refl
 pub sums-25725 : times (sums 1000) 25725 1 ≡ 725
 sums-25725 = refl
 
-pub clock-25725 : times (clock 7) 25725 (hand 2 2) ≡ hand 5 5
+pub clock-25725 : times (clock 7) 25725 (place 2 2) ≡ place 5 5
 unfolding minus
 clock-25725 = refl
 

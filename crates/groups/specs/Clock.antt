@@ -1,4 +1,4 @@
--- The points of x² + y² = 1 modulo n, added as the angles of a clock's hand from noon, and what a device of the clock means. Assumes nothing.
+-- The clock: the points of the unit circle x² + y² = 1 modulo n, added as angles from (0, 1), and what a device of it means. Assumes nothing.
 use mathlib.Core.Bool.{Bool, _&&_}
 use mathlib.Core.List.{[], _∷_}
 use Prim.Native.Nat.{ℕ, _+_, _-_, _*_, _%_}

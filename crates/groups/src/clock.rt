@@ -1,4 +1,4 @@
-//! The clock modulo a number: the points of the unit circle, added as the angles of a hand.
+//! The clock modulo a number: the points of the unit circle, added as angles.
 ghost use Prim.Native.Nat.{_^_, _≤_};
 use super::tally::Tally;
 

@@ -17,7 +17,7 @@ abbrev pub scalar : List ℕ → ℕ
 scalar [] = 0
 scalar (w ∷ ws) = scalar ws * 2 ^ 32 + w
 
--- the half of a key that is recoded, and its lowest bit, which is not
+-- the half of a key, rounded down: what is recoded
 abbrev pub half : List ℕ → ℕ
 half key = scalar key / 2
 
