@@ -3,6 +3,8 @@
 //! A line is `GROUP MODULUS X Y KEY1 KEY2 DRAWS1 DRAWS2`. Each is answered by
 //! `agreed X Y machine .. chip ..`, by `no NUMBER LAYER PLACE` and whose call was refused, or by
 //! `unreadable`; a last line says how many of each there were.
+#![tactic(auto)]
+
 use exchange_lines::line::answer_line;
 use lines::line::next_line;
 use lines::summary::Summary;

@@ -4,6 +4,8 @@
 //! 2 clock, 3 curve, where 11 11 is infinity. Its answer tells whether the two elements belong,
 //! their sum, the double and the negative of the first, and the tally; or the refusal of the
 //! modulus; or that the line can't be read.
+#![tactic(auto)]
+
 mod answer;
 mod query;
 

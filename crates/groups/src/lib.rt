@@ -1,5 +1,7 @@
 //! Groups behind one interface: a trait of devices that count their operations, the laws that
 //! every device keeps, and three devices that keep them.
+#![tactic(auto)]
+
 pub mod clock;
 pub mod curve;
 pub mod device;

@@ -1,4 +1,6 @@
 //! What a recoding takes: its sizes, a key, a draw and a sign rule.
+#![tactic(auto)]
+
 pub mod draw;
 pub mod key;
 pub mod rule;

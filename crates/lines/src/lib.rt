@@ -1,4 +1,6 @@
 //! What the programs share of lines: cutting them, reading their fields, telling a refusal, counting.
+#![tactic(auto)]
+
 pub mod field;
 pub mod line;
 pub mod summary;

@@ -1,4 +1,6 @@
 //! The multiplication over every group device and every sign rule.
+#![tactic(auto)]
+
 mod build;
 mod correction;
 mod evaluate;

@@ -2,6 +2,8 @@
 //!
 //! A line is `RULE K B M KEY DRAWS`. Each is answered by `ok S C W0 W1 .. verdict`, by
 //! `no NUMBER LAYER PLACE` or by `unreadable`; a last line says how many of each there were.
+#![tactic(auto)]
+
 use console::line::{answer_line, next_line};
 use console::summary::Summary;
 use std::io;

@@ -1,4 +1,6 @@
 //! The recoding of a key into signed windows of a random shift, and the check of a coding.
+#![tactic(auto)]
+
 pub mod check;
 pub mod coded;
 pub mod digit;

@@ -1,4 +1,6 @@
 //! Examples of the recoding and of what it takes, run as tests.
+#![tactic(auto)]
+
 #[cfg(test)]
 mod examples {
     use common::refusal::Refusal;

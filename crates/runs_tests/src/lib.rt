@@ -1,4 +1,6 @@
 //! Examples of runs, run as tests.
+#![tactic(auto)]
+
 #[cfg(test)]
 mod examples {
     use groups::clock::{Clock, ClockPoint};

@@ -1,2 +1,4 @@
 //! The steps of a multiplication: their values, their counts, and the windows of a correction.
+#![tactic(auto)]
+
 pub mod plain;
