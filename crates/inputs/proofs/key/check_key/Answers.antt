@@ -13,9 +13,9 @@ returns-then-key-lt1 c =
 pub returns-in-Some : goal.returns-in-Some
 returns-in-Some c =
     let h = c.in-Some.ensures in
-    size_refused c.args.sizes c.args.key.now (omega arith) (omega arith) c.in-Some.bit (λ i. (c.type-inv.key i).fits) h.0 h.1 (omega arith)
+    size_refused c.args.sizes c.args.key.now (omega arith) (omega arith) c.in-Some.bit (λ i. (c.type_inv.key i).fits) h.0 h.1 (omega arith)
 
-pub returns-in-default : goal.returns-in-default
-returns-in-default c =
+pub returns-in_default : goal.returns-in_default
+returns-in_default c =
     let h = c.in-Some.ensures in
     size_taken c.args.sizes c.args.key.now (omega arith) (omega arith) _ h.1 (omega arith)

@@ -23,8 +23,8 @@ passed ws i x h p is z was =
 pub loop-i-preserved : goal.loop-i-preserved
 loop-i-preserved c =
     elim c.if-word-ne0.branch [
-      | then-word-ne0 w ↦ subst (λ o. Highest (scalar (take (c.loop-i.i + 1) c.args.key.now)) o) (sym w.highest_is) (found c.args.key.now c.loop-i.i c.word-at-word.result c.loop-i-test.true (λ j. (c.type-inv.key j).fits) c.word-at-word.ensures w.if-word-ne0.true)
-      | else-word-ne0 w ↦ subst (λ o. Highest (scalar (take (c.loop-i.i + 1) c.args.key.now)) o) (sym w.highest_is) (passed c.args.key.now c.loop-i.i c.word-at-word.result c.loop-i.highest c.loop-i-test.true c.word-at-word.ensures w.if-word-ne0.false c.loop-i.invariant)
+      | then-word-ne0 w ↦ subst (λ o. Highest (scalar (take (c.loop-i.i + 1) c.args.key.now)) o) (sym w.highest-is) (found c.args.key.now c.loop-i.i c.word_at-word.result c.loop-i-test.true (λ j. (c.type_inv.key j).fits) c.word_at-word.ensures w.if-word-ne0.true)
+      | else-word-ne0 w ↦ subst (λ o. Highest (scalar (take (c.loop-i.i + 1) c.args.key.now)) o) (sym w.highest-is) (passed c.args.key.now c.loop-i.i c.word_at-word.result c.loop-i.highest c.loop-i-test.true c.word_at-word.ensures w.if-word-ne0.false c.loop-i.invariant)
     ]
 
 pub returns : goal.returns

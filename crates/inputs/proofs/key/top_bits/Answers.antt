@@ -5,6 +5,6 @@ use Rattle.inputs.proofs.key.top_bits.Goals as goal
 
 pub returns : goal.returns
 returns c =
-    c.bits-from.ensures
-    ∙ ap₂ (λ (p b : ℕ). scalar c.args.key.now / 2 ^ (p + 1) % 2 ^ b) (ap₂ ◌*◌ c.window-width.ensures c.windows.ensures) c.draw-width.ensures
+    c.bits_from.ensures
+    ∙ ap₂ (λ (p b : ℕ). scalar c.args.key.now / 2 ^ (p + 1) % 2 ^ b) (ap₂ ◌*◌ c.window_width.ensures c.windows.ensures) c.draw_width.ensures
     ∙ half_field (scalar c.args.key.now) (c.args.sizes.k * c.args.sizes.m) c.args.sizes.b

@@ -5,6 +5,6 @@ use Rattle.inputs.proofs.key.window_bits.Goals as goal
 
 pub returns : goal.returns
 returns c =
-    c.bits-from.ensures
-    ∙ ap (λ (w : ℕ). scalar c.args.key.now / 2 ^ (w * c.args.i + 1) % 2 ^ w) c.window-width-width.ensures
+    c.bits_from.ensures
+    ∙ ap (λ (w : ℕ). scalar c.args.key.now / 2 ^ (w * c.args.i + 1) % 2 ^ w) c.window_width-width.ensures
     ∙ half_field (scalar c.args.key.now) (c.args.sizes.k * c.args.i) c.args.sizes.k

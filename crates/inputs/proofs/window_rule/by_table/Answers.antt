@@ -3,8 +3,8 @@ use Rattle.std.proofs.lemmas.Int.{ints}
 use Rattle.inputs.specs.Tables.{table_high}
 use Rattle.inputs.proofs.window_rule.by_table.Goals as goal
 
-pub overflow-add-middle : goal.overflow-add-middle
-overflow-add-middle c =
+pub overflow_add-middle : goal.overflow_add-middle
+overflow_add-middle c =
     let l : c.args.sizes.k + c.args.sizes.b - 1 ≤ 36 = omega arith in
     let p : 2 ^ (c.args.sizes.k + c.args.sizes.b - 1) ≤ 2 ^ 36 = pow_mono l in omega (arith, ints)
 

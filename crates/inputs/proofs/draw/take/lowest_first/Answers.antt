@@ -11,11 +11,11 @@ loop-i-init c = (
   rw (sub_self (length c.args.bytes.now)) (lit< tt),
 )
 
-pub overflow-mul-value : goal.overflow-mul-value
-overflow-mul-value c = omega (arith, three_bytes c.loop-i.value (length c.args.bytes.now - c.loop-i.i) (omega arith) c.loop-i.invariant.1)
+pub overflow_mul-value : goal.overflow_mul-value
+overflow_mul-value c = omega (arith, three_bytes c.loop-i.value (length c.args.bytes.now - c.loop-i.i) (omega arith) c.loop-i.invariant.1)
 
-pub overflow-add-value : goal.overflow-add-value
-overflow-add-value c = omega (arith, three_bytes c.loop-i.value (length c.args.bytes.now - c.loop-i.i) (omega arith) c.loop-i.invariant.1)
+pub overflow_add-value : goal.overflow_add-value
+overflow_add-value c = omega (arith, three_bytes c.loop-i.value (length c.args.bytes.now - c.loop-i.i) (omega arith) c.loop-i.invariant.1)
 
 pub loop-i-preserved : goal.loop-i-preserved
 loop-i-preserved c =
