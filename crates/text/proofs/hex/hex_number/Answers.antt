@@ -8,8 +8,8 @@ loop-byte-init c = reading_none _
 pub loop-byte-preserved : goal.loop-byte-preserved
 loop-byte-preserved c = reading_more _ _ _ c.loop-byte.invariant _ c.loop-byte-test.true (sym c.in-Some.ensures.value)
 
-pub returns-in-default : goal.returns-in-default
-returns-in-default c = record { value = no_digit _ _ _ c.loop-byte.invariant c.loop-byte-test.true (sym c.in-default.ensures.value); bound = tt }
+pub returns-in_default : goal.returns-in_default
+returns-in_default c = record { value = no_digit _ _ _ c.loop-byte.invariant c.loop-byte-test.true (sym c.in_default.ensures.value); bound = tt }
 
 pub returns : goal.returns
 returns c = record { value = all_read _ _ _ c.loop-byte.invariant c.loop-byte-test.false; bound = all_small _ _ _ c.loop-byte.invariant c.loop-byte-test.false c.loop-byte.auto.byte-index-end }
@@ -17,8 +17,8 @@ returns c = record { value = all_read _ _ _ c.loop-byte.invariant c.loop-byte-te
 fits : (c : goal.In-Some) → 16 * c.loop-byte.number + c.in-Some.digit < 2 ^ 32
 fits c = next_fits _ _ _ c.loop-byte.invariant _ c.loop-byte-test.true (sym c.in-Some.ensures.value) c.requires
 
-pub overflow-mul-number : goal.overflow-mul-number
-overflow-mul-number c = omega (arith, fits c)
+pub overflow_mul-number : goal.overflow_mul-number
+overflow_mul-number c = omega (arith, fits c)
 
-pub overflow-add-number : goal.overflow-add-number
-overflow-add-number c = omega (arith, fits c)
+pub overflow_add-number : goal.overflow_add-number
+overflow_add-number c = omega (arith, fits c)

@@ -13,10 +13,10 @@ pub loop-rest-preserved : goal.loop-rest-preserved
 loop-rest-preserved c =
     words_left
     (left_more _ _ _ _ c.loop-rest.invariant.left c.in-Some.word _ _
-    (words_group c.loop-rest.rest.now _ _ _ (Some c.in-Some.word) (omega (arith, false-eqb _ 0 c.loop-rest-test.ensures)) c.saturating-sub.ensures c.split-at.ensures.back c.split-at.ensures.front (sym c.in-Some.ensures.value))
-    (chosen _ _ _ _ c.push.ensures.items (ap is_ok c.in-ok-push.was)))
+    (words_group c.loop-rest.rest.now _ _ _ (Some c.in-Some.word) (omega (arith, false-eqb _ 0 c.loop-rest-test.ensures)) c.saturating_sub.ensures c.split_at.ensures.back c.split_at.ensures.front (sym c.in-Some.ensures.value))
+    (chosen _ _ _ _ c.push.ensures.items (ap is_ok c.in_ok-push.was)))
 
-pub returns-in-default : goal.returns-in-default
-returns-in-default c =
-    let none = left_none _ _ _ _ c.loop-rest.invariant.left (words_group c.loop-rest.rest.now _ _ _ None (omega (arith, false-eqb _ 0 c.loop-rest-test.ensures)) c.saturating-sub.ensures c.split-at.ensures.back c.split-at.ensures.front (sym c.in-default.ensures.value)) in
+pub returns-in_default : goal.returns-in_default
+returns-in_default c =
+    let none = left_none _ _ _ _ c.loop-rest.invariant.left (words_group c.loop-rest.rest.now _ _ _ None (omega (arith, false-eqb _ 0 c.loop-rest-test.ensures)) c.saturating_sub.ensures c.split_at.ensures.back c.split_at.ensures.front (sym c.in_default.ensures.value)) in
     record { value = none; number = ap (option_map words_number) none ∙ words_number_lem c.args.text.now }
