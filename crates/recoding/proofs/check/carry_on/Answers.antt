@@ -21,25 +21,25 @@ divided-requires c =
     omega (arith, ints, c.step.ensures)
 
 -- the signed draw, as it was computed, is small
-draw_about : (c : goal.After-times-sign) → About (2 ^ 32) c.times-sign.result
+draw_about : (c : goal.After-times_sign) → About (2 ^ 32) c.times_sign.result
 draw_about c =
     let t = signed_small c.decode-digit.result.sign c.args.s in
     let f : c.args.s < 2 ^ 32 = c.ranges.s.fits in
-    let e = c.times-sign.ensures in
+    let e = c.times_sign.ensures in
     (omega (arith, ints, t, e), omega (arith, ints, t, e))
 
-pub overflow-add-sum-2 : goal.overflow-add-sum-2
-overflow-add-sum-2 c = (sums c.args.carried c.scaled.result c.times-sign.result c.args.bits c.requires.small (c.scaled.ensures.least, c.scaled.ensures.most) (draw_about c) c.ranges.bits.fits).0
+pub overflow_add-sum-2 : goal.overflow_add-sum-2
+overflow_add-sum-2 c = (sums c.args.carried c.scaled.result c.times_sign.result c.args.bits c.requires.small (c.scaled.ensures.least, c.scaled.ensures.most) (draw_about c) c.ranges.bits.fits).0
 
-pub overflow-sub-sum : goal.overflow-sub-sum
-overflow-sub-sum c = (sums c.args.carried c.scaled.result c.times-sign.result c.args.bits c.requires.small (c.scaled.ensures.least, c.scaled.ensures.most) (draw_about c) c.ranges.bits.fits).1
+pub overflow_sub-sum : goal.overflow_sub-sum
+overflow_sub-sum c = (sums c.args.carried c.scaled.result c.times_sign.result c.args.bits c.requires.small (c.scaled.ensures.least, c.scaled.ensures.most) (draw_about c) c.ranges.bits.fits).1
 
 pub returns : goal.returns
 returns c =
     let t = signed_small c.decode-digit.result.sign c.args.s in
     let f : c.args.s < 2 ^ 32 = c.ranges.s.fits in
-    let e = c.times-sign.ensures in
-    let q = (sums c.args.carried c.scaled.result c.times-sign.result c.args.bits c.requires.small (c.scaled.ensures.least, c.scaled.ensures.most) (omega (arith, ints, t, e), omega (arith, ints, t, e)) c.ranges.bits.fits).2 in
+    let e = c.times_sign.ensures in
+    let q = (sums c.args.carried c.scaled.result c.times_sign.result c.args.bits c.requires.small (c.scaled.ensures.least, c.scaled.ensures.most) (omega (arith, ints, t, e), omega (arith, ints, t, e)) c.ranges.bits.fits).2 in
     let v : SFits w32 c.decode-digit.result.value = search rules in
     let ed = c.decode-digit.ensures ∙ ap decoded (to_z-of_z w32 c.args.word c.ranges.word) in
     let x = ap (λ (y : ℤ). to_z w64 (of_z w64 y)) (to_z-of_z w32 c.decode-digit.result.value v) ∙ to_z-of_z w64 c.decode-digit.result.value (omega (arith, ints, v)) in

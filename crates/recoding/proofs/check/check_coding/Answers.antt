@@ -19,15 +19,15 @@ equation_by : {c c' : ℤ} {ws ws' : List ℤ} (k b s e : ℕ) (r : Bool) → c 
 equation_by {c} {c'} {ws} {ws'} k b s e r ec ew d =
     subst (λ (x : ℤ). Decides r (Equation k b s e x (map decoded ws'))) ec (subst (λ (x : List ℤ). Decides r (Equation k b s e c (map decoded x))) ew d)
 
-pub slice-bounds-digits-end : goal.slice-bounds-digits-end
-slice-bounds-digits-end g c =
-    let t = both_pass (key_refusal c.args.sizes c.args.key.now) (digits_refusal c.args.sizes (length c.args.words.now)) c.in-ok-check-lent.ensures in
+pub slice_bounds-digits-end : goal.slice_bounds-digits-end
+slice_bounds-digits-end g c =
+    let t = both_pass (key_refusal c.args.sizes c.args.key.now) (digits_refusal c.args.sizes (length c.args.words.now)) c.in_ok-check_lent.ensures in
     let h : c.windows.result ≤ length c.args.words.now = omega (arith, words_enough c.args.sizes (length c.args.words.now) t.1) in
     search rules
 
-pub equation-holds-holds-requires : goal.equation-holds-holds-requires
-equation-holds-holds-requires g c =
-    let t = both_pass (key_refusal c.args.sizes c.args.key.now) (digits_refusal c.args.sizes (length c.args.words.now)) c.in-ok-check-lent.ensures in
+pub equation_holds-holds-requires : goal.equation_holds-holds-requires
+equation_holds-holds-requires g c =
+    let t = both_pass (key_refusal c.args.sizes c.args.key.now) (digits_refusal c.args.sizes (length c.args.words.now)) c.in_ok-check_lent.ensures in
     let h = words_enough c.args.sizes (length c.args.words.now) t.1 in
     record { count = simp length-take (omega arith); key = key_below c.args.sizes c.args.key.now t.0 }
 
@@ -39,11 +39,11 @@ returns g c =
     let ws : take (c.windows.result - 0) c.args.words.now ≡ take z.m c.args.words.now = ap (λ (n : ℕ). take n c.args.words.now) (sub-zero c.windows.result ∙ c.windows.ensures) in
     let lo = to_z-of_z w32 c.lo.result (search rules) ∙ c.lo.ensures in
     let hi = to_z-of_z w32 c.hi.result (search rules) ∙ c.hi.ensures in (
-      c.in-ok-check-lent.ensures,
+      c.in_ok-check_lent.ensures,
       verdict R z (half c.args.key.now) c.args.s c.args.correction (map decoded (take z.m c.args.words.now))
-          c.draw-admitted-drawn.result c.correction-small-small.result c.within-limits-within.result c.equation-holds-holds.result
-          c.draw-admitted-drawn.ensures
-          (simp to_z-of_z at c.correction-small-small.ensures)
-          (limits_by c.within-limits-within.result lo hi ws c.within-limits-within.ensures)
-          (equation_by z.k z.b c.args.s (half c.args.key.now) c.equation-holds-holds.result (to_z-of_z w32 c.args.correction f) ws c.equation-holds-holds.ensures),
+          c.draw_admitted-drawn.result c.correction_small-small.result c.within_limits-within.result c.equation_holds-holds.result
+          c.draw_admitted-drawn.ensures
+          (simp to_z-of_z at c.correction_small-small.ensures)
+          (limits_by c.within_limits-within.result lo hi ws c.within_limits-within.ensures)
+          (equation_by z.k z.b c.args.s (half c.args.key.now) c.equation_holds-holds.result (to_z-of_z w32 c.args.correction f) ws c.equation_holds-holds.ensures),
     )

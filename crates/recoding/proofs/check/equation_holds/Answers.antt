@@ -32,14 +32,14 @@ loop-i-init c =
       (λ r. start_rest z.k z.b c.args.s (half c.args.key.now) (to_z w32 (of_z w32 c.args.correction)) ds (subst (λ (x : ℤ). Rest z.k z.b c.args.s (half c.args.key.now) 0 x ds) e r)),
     )
 
-pub returns-in-default : goal.returns-in-default
-returns-in-default c =
+pub returns-in_default : goal.returns-in_default
+returns-in_default c =
     let f : SFits w32 c.args.correction = c.ranges.correction in
     let e : SFits w32 (get_or c.args.words.now c.loop-i.i (pos 0)) = search rules in
-    let never = simp to_z-of_z at c.in-default.ensures.divided in
+    let never = simp to_z-of_z at c.in_default.ensures.divided in
     let on = simp to_z-of_z at c.loop-i.invariant.1 in (
       not_true,
-      λ h. absurd (turn_fails c.args.sizes.k c.args.sizes.b c.args.s (half c.args.key.now) c.loop-i.i c.window-bits-bits.result _ c.args.words.now (omega arith) c.window-bits-bits.ensures never (on h)),
+      λ h. absurd (turn_fails c.args.sizes.k c.args.sizes.b c.args.s (half c.args.key.now) c.loop-i.i c.window_bits-bits.result _ c.args.words.now (omega arith) c.window_bits-bits.ensures never (on h)),
     )
 
 pub loop-i-preserved : goal.loop-i-preserved
@@ -49,8 +49,8 @@ loop-i-preserved c =
     let e : SFits w32 (get_or c.args.words.now c.loop-i.i (pos 0)) = search rules in
     let n : SFits w64 c.in-Some.next = search rules in
     let q = simp to_z-of_z at c.in-Some.ensures.divided in
-    let on = turn_on z.k z.b c.args.s (half c.args.key.now) c.loop-i.i c.window-bits-bits.result _ c.args.words.now (omega arith) c.window-bits-bits.ensures c.in-Some.next q in
-    let back = turn_back z.k z.b c.args.s (half c.args.key.now) c.loop-i.i c.window-bits-bits.result _ c.args.words.now (omega arith) c.window-bits-bits.ensures c.in-Some.next q in
+    let on = turn_on z.k z.b c.args.s (half c.args.key.now) c.loop-i.i c.window_bits-bits.result _ c.args.words.now (omega arith) c.window_bits-bits.ensures c.in-Some.next q in
+    let back = turn_back z.k z.b c.args.s (half c.args.key.now) c.loop-i.i c.window_bits-bits.result _ c.args.words.now (omega arith) c.window_bits-bits.ensures c.in-Some.next q in
     let m = to_z-of_z w64 c.in-Some.next n in
     let R : ℤ → Type 0 = λ x. Rest z.k z.b c.args.s (half c.args.key.now) (c.loop-i.i + 1) x (map decoded (drop (c.loop-i.i + 1) c.args.words.now)) in (
       subst (About (2 ^ 61)) (sym m) c.in-Some.ensures.small,
@@ -64,10 +64,10 @@ returns c =
     let z = c.args.sizes in
     let n : length c.args.words.now ≡ z.m = c.requires.count in
     let f : SFits w32 c.args.correction = c.ranges.correction in
-    let t = c.top-bits.ensures ∙ top_field d z.k z.b z.m c.requires.key in
+    let t = c.top_bits.ensures ∙ top_field d z.k z.b z.m c.requires.key in
     let i : c.loop-i.i ≡ z.m = omega arith in
     let ds : map decoded (drop c.loop-i.i c.args.words.now) ≡ [] = ap (map decoded) (drop_all c.loop-i.i c.args.words.now (omega arith)) in
-    let top : c.top-bits.result ≡ d / 2 / 2 ^ (z.k * c.loop-i.i) = t ∙ ap (λ (m : ℕ). d / 2 / 2 ^ (z.k * m)) (sym i) in
+    let top : c.top_bits.result ≡ d / 2 / 2 ^ (z.k * c.loop-i.i) = t ∙ ap (λ (m : ℕ). d / 2 / 2 ^ (z.k * m)) (sym i) in
     let on = simp to_z-of_z at c.loop-i.invariant.1 in
     let back = simp to_z-of_z at c.loop-i.invariant.2 in
-    same_number z.k z.b c.args.s (d / 2) c.loop-i.i _ c.top-bits.result (map decoded (drop c.loop-i.i c.args.words.now)) c.loop-i.auto.carried.fits c.top-bits.type-inv ds top on back
+    same_number z.k z.b c.args.s (d / 2) c.loop-i.i _ c.top_bits.result (map decoded (drop c.loop-i.i c.args.words.now)) c.loop-i.auto.carried.fits c.top_bits.type_inv ds top on back

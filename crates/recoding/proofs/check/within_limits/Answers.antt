@@ -6,12 +6,12 @@ use Rattle.recoding.specs.Digits.{decoded}
 use Rattle.recoding.proofs.Limits.{within_more, within_at, not_true}
 use Rattle.recoding.proofs.check.within_limits.Goals as goal
 
-pub returns-then-not-digit-within : goal.returns-then-not-digit-within
-returns-then-not-digit-within c =
+pub returns-then-not-digit_within : goal.returns-then-not-digit_within
+returns-then-not-digit_within c =
     let f : SFits w32 c.args.lo = c.ranges.lo in
     let g : SFits w32 c.args.hi = c.ranges.hi in
     let e : SFits w32 (get_or c.args.words.now c.loop-i.i (pos 0)) = search rules in
-    let t = simp to_z-of_z at c.if-not-digit-within.ensures.1 in
+    let t = simp to_z-of_z at c.if-not-digit_within.ensures.1 in
     (not_true, λ p. t (within_at c.args.lo c.args.hi c.args.words.now c.loop-i.i c.loop-i-test.true p))
 
 pub loop-i-preserved : goal.loop-i-preserved
@@ -19,7 +19,7 @@ loop-i-preserved c =
     let f : SFits w32 c.args.lo = c.ranges.lo in
     let g : SFits w32 c.args.hi = c.ranges.hi in
     let e : SFits w32 (get_or c.args.words.now c.loop-i.i (pos 0)) = search rules in
-    let t = simp to_z-of_z at (c.if-not-digit-within.ensures.0 refl) in
+    let t = simp to_z-of_z at (c.if-not-digit_within.ensures.0 refl) in
     let i = simp to_z-of_z at c.loop-i.invariant in
     simp to_z-of_z (within_more c.args.lo c.args.hi c.args.words.now c.loop-i.i c.loop-i-test.true i t)
 

@@ -2,8 +2,8 @@ use Rattle.std.proofs.Common.{◌^◌, ℤ, sym, subst}
 use Rattle.recoding.proofs.Machine.{About, Scaled, scaled_is}
 use Rattle.recoding.proofs.power.scaled.Goals as goal
 
-pub overflow-mul-result : goal.overflow-mul-result
-overflow-mul-result c = (scaled_is c.args.factor c.args.z c.requires.factor.0 c.requires.factor.1 c.requires.small).fits
+pub overflow_mul-result : goal.overflow_mul-result
+overflow_mul-result c = (scaled_is c.args.factor c.args.z c.requires.factor.0 c.requires.factor.1 c.requires.small).fits
 
 pub returns : goal.returns
 returns c =

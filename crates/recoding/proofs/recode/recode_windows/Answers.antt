@@ -14,9 +14,9 @@ loop-i-init g c =
     let R : Rule = g.R.SignRule.rule c.args.rule.now in
     let d : ℕ = scalar c.args.key.now in
     let t = start R c.args.sizes c.args.s d (g.met.R.SignRule.lawful c.args.rule.now) c.requires.admitted c.requires.key in
-    let r : to_z w64 c.top-bits-left.result ≡ pos c.top-bits-left.result = omega (arith, ints) in
+    let r : to_z w64 c.top_bits-left.result ≡ pos c.top_bits-left.result = omega (arith, ints) in
     let n = c.windows-i.ensures in
-    let f = c.top-bits-left.ensures ∙ top_field d c.args.sizes.k c.args.sizes.b c.args.sizes.m c.requires.key in (
+    let f = c.top_bits-left.ensures ∙ top_field d c.args.sizes.k c.args.sizes.b c.args.sizes.m c.requires.key in (
       omega arith,
       drop_all c.windows-i.result c.args.words.now (omega arith) ∙ sym (ap (λ (m : ℕ). map encoded (standing R c.args.sizes c.args.s (d / 2) m).digits) n ∙ ap (map encoded) t.0),
       r ∙ ap pos f ∙ sym (ap (λ (m : ℕ). (standing R c.args.sizes c.args.s (d / 2) m).left) n ∙ t.1),
@@ -30,7 +30,7 @@ join-requires g c =
 pub cut-window-requires : goal.cut-window-requires
 cut-window-requires g c =
     let R : Rule = g.R.SignRule.rule c.args.rule.now in
-    let h = number_is R c.args.sizes c.args.s (scalar c.args.key.now) (g.met.R.SignRule.lawful c.args.rule.now) c.requires.admitted c.requires.key c.loop-i.i c.window-bits-bits.result c.join.result _ c.loop-i.invariant.2 c.window-bits-bits.ensures c.join.ensures in
+    let h = number_is R c.args.sizes c.args.s (scalar c.args.key.now) (g.met.R.SignRule.lawful c.args.rule.now) c.requires.admitted c.requires.key c.loop-i.i c.window_bits-bits.result c.join.result _ c.loop-i.invariant.2 c.window_bits-bits.ensures c.join.ensures in
     let f : SFits w64 c.join.result = search rules in
     let t = reached_at (g.R.SignRule.rule c.args.rule.now) c.args.sizes c.args.s (scalar c.args.key.now) (g.met.R.SignRule.lawful c.args.rule.now) c.requires.admitted c.requires.key c.loop-i.i c.loop-i.invariant.0 in
     record {
@@ -44,7 +44,7 @@ encode-requires g c =
     let z = c.args.sizes in
     let f : SFits w64 c.join.result = search rules in
     let t = digit_about R z c.args.s (scalar c.args.key.now) (g.met.R.SignRule.lawful c.args.rule.now) c.requires.admitted c.requires.key c.loop-i.i c.loop-i.invariant.0 in
-    let e = to_z-of_z w64 c.join.result f ∙ number_is R c.args.sizes c.args.s (scalar c.args.key.now) (g.met.R.SignRule.lawful c.args.rule.now) c.requires.admitted c.requires.key c.loop-i.i c.window-bits-bits.result c.join.result _ c.loop-i.invariant.2 c.window-bits-bits.ensures c.join.ensures in
+    let e = to_z-of_z w64 c.join.result f ∙ number_is R c.args.sizes c.args.s (scalar c.args.key.now) (g.met.R.SignRule.lawful c.args.rule.now) c.requires.admitted c.requires.key c.loop-i.i c.window_bits-bits.result c.join.result _ c.loop-i.invariant.2 c.window_bits-bits.ensures c.join.ensures in
     subst (About (2 ^ 20)) (sym (c.cut-window.ensures.value ∙ ap (λ (h : ℤ). digit z.k z.b h c.args.s (R.choose z.k z.b h c.args.s)) e)) t
 
 pub place-requires : goal.place-requires
@@ -62,16 +62,16 @@ loop-i-preserved g c =
     let f : SFits w64 c.join.result = search rules in
     let f1 : SFits w32 c.encode.result = search rules in
     let f2 : SFits w64 c.cut-window.result.left = search rules in
-    let e = to_z-of_z w64 c.join.result f ∙ number_is R c.args.sizes c.args.s (scalar c.args.key.now) (g.met.R.SignRule.lawful c.args.rule.now) c.requires.admitted c.requires.key c.loop-i.i c.window-bits-bits.result c.join.result _ c.loop-i.invariant.2 c.window-bits-bits.ensures c.join.ensures in
+    let e = to_z-of_z w64 c.join.result f ∙ number_is R c.args.sizes c.args.s (scalar c.args.key.now) (g.met.R.SignRule.lawful c.args.rule.now) c.requires.admitted c.requires.key c.loop-i.i c.window_bits-bits.result c.join.result _ c.loop-i.invariant.2 c.window_bits-bits.ensures c.join.ensures in
     let t = again R c.args.sizes c.args.s (scalar c.args.key.now) (g.met.R.SignRule.lawful c.args.rule.now) c.requires.admitted c.requires.key
     c.loop-i.i c.loop-i-test.true c.loop-i.invariant.0 c.loop-i.words c.place.new.words _ c.cut-window.result.left _ c.cut-window.result.digit c.cut-window.result.carry
     e c.cut-window.ensures.value c.cut-window.ensures.sign c.cut-window.ensures.carry c.cut-window.ensures.left (to_z-of_z w32 _ f1 ∙ c.encode.ensures) c.loop-i.invariant.1 c.place.ensures in
     (omega arith, t.0, to_z-of_z w64 _ f2 ∙ t.1)
 
-pub overflow-cast-result : goal.overflow-cast-result
-overflow-cast-result g c =
+pub overflow_cast-result : goal.overflow_cast-result
+overflow_cast-result g c =
     let t = left_about (g.R.SignRule.rule c.args.rule.now) c.args.sizes c.args.s (scalar c.args.key.now) (g.met.R.SignRule.lawful c.args.rule.now) c.requires.admitted c.requires.key c.loop-i.i c.loop-i.invariant.0 in
-    omega (arith, ints, c.loop-i.invariant.2, c.loop-i.left_is, t)
+    omega (arith, ints, c.loop-i.invariant.2, c.loop-i.left-is, t)
 
 pub returns : goal.returns
 returns g c =

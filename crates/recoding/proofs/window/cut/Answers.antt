@@ -5,8 +5,8 @@ use Rattle.recoding.proofs.Machine.{remainder_by, digit_is, left_is}
 use Rattle.recoding.proofs.Windows.{digit_small}
 use Rattle.recoding.proofs.window.cut.Goals as goal
 
-pub overflow-cast-result : goal.overflow-cast-result
-overflow-cast-result g c =
+pub overflow_cast-result : goal.overflow_cast-result
+overflow_cast-result g c =
     let z = c.args.sizes in
     let F : ℤ → Choice = λ h. (g.R.SignRule.rule c.args.rule.now).choose z.k z.b h c.args.s in
     let e = remainder_by z.k z.b c.args.s c.args.h c.remain-r.result F c.choose-choice.result c.ranges.h c.choose-choice.ensures c.remain-r.ensures.is in
@@ -16,12 +16,12 @@ overflow-cast-result g c =
 
 pub scaled-requires : goal.scaled-requires
 scaled-requires g c =
-    let f = overflow-cast-result g c in
+    let f = overflow_cast-result g c in
     let p : 2 ^ c.args.sizes.b ≤ 2 ^ 30 = pow_mono c.args.sizes.b_most in
     record { factor = (omega (arith, ints, c.unit-unit.ensures), omega (arith, ints, c.unit-unit.ensures)); small = (omega (arith, ints, f), omega (arith, ints, f)) }
 
-pub overflow-sub-result : goal.overflow-sub-result
-overflow-sub-result g c =
+pub overflow_sub-result : goal.overflow_sub-result
+overflow_sub-result g c =
     let z = c.args.sizes in
     let F : ℤ → Choice = λ h. (g.R.SignRule.rule c.args.rule.now).choose z.k z.b h c.args.s in
     let e = remainder_by z.k z.b c.args.s c.args.h c.remain-r.result F c.choose-choice.result c.ranges.h c.choose-choice.ensures c.remain-r.ensures.is in

@@ -4,19 +4,19 @@ use Rattle.recoding.proofs.Machine.{Remains, remains}
 use Rattle.recoding.proofs.Windows.{remainder_small}
 use Rattle.recoding.proofs.window.remain.Goals as goal
 
-pub overflow-sub-result : goal.overflow-sub-result
-overflow-sub-result c =
+pub overflow_sub-result : goal.overflow_sub-result
+overflow_sub-result c =
     let s = remainder_small c.args.sizes.k c.args.sizes.b c.args.s c.args.h c.args.choice (omega arith, omega arith, omega arith, omega arith) c.ranges.s.fits c.requires.reached in
-    omega (arith, ints, s, c.times-sign.ensures)
+    omega (arith, ints, s, c.times_sign.ensures)
 
-parts : (c : goal.After-times-carry) → Remains c.args.sizes.k c.args.sizes.b c.args.s c.args.h c.times-sign.result c.times_carry_lem.result c.args.choice
+parts : (c : goal.After-times_carry) → Remains c.args.sizes.k c.args.sizes.b c.args.s c.args.h c.times_sign.result c.times_carry.result c.args.choice
 parts c =
-    remains c.args.sizes.k c.args.sizes.b c.args.s c.args.h c.span.result c.times-sign.result c.times_carry_lem.result c.args.choice
+    remains c.args.sizes.k c.args.sizes.b c.args.s c.args.h c.span.result c.times_sign.result c.times_carry.result c.args.choice
     (remainder_small c.args.sizes.k c.args.sizes.b c.args.s c.args.h c.args.choice (omega arith, omega arith, omega arith, omega arith) c.ranges.s.fits c.requires.reached)
-    c.span.ensures c.times-sign.ensures c.times_carry_lem.ensures
+    c.span.ensures c.times_sign.ensures c.times_carry.ensures
 
-pub overflow-sub-result-2 : goal.overflow-sub-result-2
-overflow-sub-result-2 c = (parts c).ranges
+pub overflow_sub-result-2 : goal.overflow_sub-result-2
+overflow_sub-result-2 c = (parts c).fits
 
 pub returns : goal.returns
 returns c =
