@@ -22,9 +22,9 @@ returns g c =
     let t : Tally = c.args.tally in
     let lo-is = to_z-of_z w32 c.lo.result (search rules) ∙ c.lo.ensures in
     let hi-is = to_z-of_z w32 c.hi.result (search rules) ∙ c.hi.ensures in
-    let table : c.count-table-table.result ≡ table_work lo hi z.k z.b t =
-    table_by z.k z.b t c.count-table-table.result lo-is hi-is c.count-table-table.ensures in
-    let all : c.count-sums.result ≡ work lo hi z.k z.b z.m t = c.count-sums.ensures ∙ ap (sums_work z.k z.b z.m) table in
+    let table : c.count_table-table.result ≡ table_work lo hi z.k z.b t =
+    table_by z.k z.b t c.count_table-table.result lo-is hi-is c.count_table-table.ensures in
+    let all : c.count_sums.result ≡ work lo hi z.k z.b z.m t = c.count_sums.ensures ∙ ap (sums_work z.k z.b z.m) table in
     record {
       work = all;
       counts = subst (λ (r : Tally). Counts lo hi z.k z.b z.m t r) (sym all) (work_counts lo hi z.k z.b z.m (law.lo_most z.k z.b widths) (law.hi_least z.k z.b widths) t);
