@@ -6,9 +6,9 @@ use Rattle.console.proofs.line.write_refusal.Goals as goal
 pub returns : goal.returns
 returns c =
     six (vec_items c.args.out.now) (codes "no ") (decimal (number c.args.refusal)) (codes " ") (decimal (layer c.args.refusal)) (codes " ") (decimal (place_of c.args.refusal))
-    c.in-ok-extend-from-slice.ensures.items
-    (c.in-ok-push-number.ensures.items ∙ ap (λ n. vec_items c.extend-from-slice.new.self ++ decimal n) c.number.ensures)
-    c.in-ok-extend-from-slice-2.ensures.items
-    (c.in-ok-push-number-2.ensures.items ∙ ap (λ n. vec_items c.extend-from-slice-2.new.self ++ decimal n) c.layer.ensures)
-    c.in-ok-extend-from-slice-3.ensures.items
-    (c.in-ok-push-number-3.ensures.items ∙ ap (λ n. vec_items c.extend-from-slice-3.new.self ++ decimal n) c.place.ensures)
+    c.in_ok-extend_from_slice.ensures.items
+    (c.in_ok-push_number.ensures.items ∙ ap (λ n. vec_items c.extend_from_slice.new.self ++ decimal n) c.number.ensures)
+    c.in_ok-extend_from_slice-2.ensures.items
+    (c.in_ok-push_number-2.ensures.items ∙ ap (λ n. vec_items c.extend_from_slice-2.new.self ++ decimal n) c.layer.ensures)
+    c.in_ok-extend_from_slice-3.ensures.items
+    (c.in_ok-push_number-3.ensures.items ∙ ap (λ n. vec_items c.extend_from_slice-3.new.self ++ decimal n) c.place.ensures)

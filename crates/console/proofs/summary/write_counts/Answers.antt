@@ -5,9 +5,9 @@ use Rattle.console.proofs.summary.write_counts.Goals as goal
 pub returns : goal.returns
 returns c =
     six (vec_items c.args.out.now) (decimal c.args.recoded) (codes " keys recoded and checked, ") (decimal c.args.refused) (codes " refused, ") (decimal c.args.unreadable) (codes " unreadable\n")
-    c.in-ok-push-number.ensures.items
-    c.in-ok-extend-from-slice.ensures.items
-    c.in-ok-push-number-2.ensures.items
-    c.in-ok-extend-from-slice-2.ensures.items
-    c.in-ok-push-number-3.ensures.items
-    c.in-ok-extend-from-slice-3.ensures.items
+    c.in_ok-push_number.ensures.items
+    c.in_ok-extend_from_slice.ensures.items
+    c.in_ok-push_number-2.ensures.items
+    c.in_ok-extend_from_slice-2.ensures.items
+    c.in_ok-push_number-3.ensures.items
+    c.in_ok-extend_from_slice-3.ensures.items

@@ -14,4 +14,4 @@ answered z q (Ok a) m s =
 answered z q (Err e) m s = s
 
 pub returns-in-Ok : goal.returns-in-Ok
-returns-in-Ok c = answered c.in-Ok.sizes (view c.args.self.now) c.answer-sized.result c.in-Ok.ensures c.answer-sized.ensures
+returns-in-Ok c = answered c.in-Ok.sizes (view c.args.self.now) c.answer_sized.result c.in-Ok.ensures c.answer_sized.ensures
