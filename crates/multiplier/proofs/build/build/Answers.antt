@@ -12,15 +12,15 @@ returns g c =
     let b : ℕ = c.args.bits in
     let base = c.args.base in
     let l = c.args.layout in
-    let one = c.begin-unit-a.ensures in
-    let three = c.fill-windows.ensures in
-    let four = c.fill-small.ensures in
-    let U = c.begin-unit-a.result.0 in
-    let S = c.begin-unit-a.result.1 in
+    let one = c.begin-unit_a.ensures in
+    let three = c.fill_windows.ensures in
+    let four = c.fill_small.ensures in
+    let U = c.begin-unit_a.result.0 in
+    let S = c.begin-unit_a.result.1 in
     record {
       cells = four.cells
-          ∙ ap (λ h. small_cells h c.fill-windows.new.cells c.small.result (l.top - 1) base) (three.same ∙ one.same)
-          ∙ ap (λ n. small_cells G c.fill-windows.new.cells n (l.top - 1) base) c.small.ensures
+          ∙ ap (λ h. small_cells h c.fill_windows.new.cells c.small.result (l.top - 1) base) (three.same ∙ one.same)
+          ∙ ap (λ n. small_cells G c.fill_windows.new.cells n (l.top - 1) base) c.small.ensures
           ∙ ap (λ w. small_cells G w (l.down + l.up + 1) (l.top - 1) base) (
           three.cells
           ∙ ap (λ h. window_cells h c.args.cells.now l.down l.up U S) one.same

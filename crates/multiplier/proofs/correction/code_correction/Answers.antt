@@ -10,7 +10,7 @@ loop-i-init c =
     let C : ℤ = to_z w32 (of_z w32 c.args.correction) in
     let n : ℕ = length c.args.windows.now in
     let none : n - 0 ≡ n = omega arith in
-    (omega arith, ap (λ (m : ℕ). map (turned_by C) (low_windows c.args.width m c.unsigned-abs-rest.result 0)) none ∙ ap (λ (x : ℕ). map (turned_by C) (low_windows c.args.width n x 0)) c.unsigned-abs-rest.ensures.value)
+    (omega arith, ap (λ (m : ℕ). map (turned_by C) (low_windows c.args.width m c.unsigned_abs-rest.result 0)) none ∙ ap (λ (x : ℕ). map (turned_by C) (low_windows c.args.width n x 0)) c.unsigned_abs-rest.ensures.value)
 
 pub loop-i-preserved : goal.loop-i-preserved
 loop-i-preserved c =

@@ -5,5 +5,5 @@ use Rattle.multiplier.proofs.correction.correction_count.Goals as goal
 pub returns : goal.returns
 returns c =
     let z = c.args.sizes in
-    let same = ap₂ (λ (b k : ℕ). b / k + 1) c.draw-width.ensures c.window-width.ensures in
+    let same = ap₂ (λ (b k : ℕ). b / k + 1) c.draw_width.ensures c.window_width.ensures in
     record { value = same; small = subst (λ (n : ℕ). n ≤ 16) (sym same) (count_most z.k z.b z.k_least z.b_most) }

@@ -21,7 +21,7 @@ gather-requires g c =
     let z = c.args.sizes in
     let C : ℤ = to_z w32 (of_z w32 c.args.correction) in
     let same : C ≡ c.args.correction = to_z-of_z w32 c.args.correction c.ranges.correction in
-    let is = written z.k z.b c.window-width-width.result (length c.args.windows.now) c.args.correction C c.code-correction.new.windows c.code-correction.ensures c.window-width-width.ensures c.requires.count same in
+    let is = written z.k z.b c.window_width-width.result (length c.args.windows.now) c.args.correction C c.code_correction.new.windows c.code_correction.ensures c.window_width-width.ensures c.requires.count same in
     let cells : ℕ = length c.args.table.now.cells.now in
     subst (AllReach cells (Correction c.args.small)) (sym is) (small_reach cells c.args.small (2 ^ (z.k - 1)) (correction_windows z.k z.b c.args.correction) c.requires.room (correction_small_lem z.k z.b (omega (arith, z.k_least)) c.args.correction))
 
@@ -30,16 +30,16 @@ returns g c =
     let d = g.D.GroupDevice in
     let G = d.group c.args.device.now in
     let z = c.args.sizes in
-    let w : ℕ = c.window-width-width.result in
+    let w : ℕ = c.window_width-width.result in
     let C : ℤ = to_z w32 (of_z w32 c.args.correction) in
     let same : C ≡ c.args.correction = to_z-of_z w32 c.args.correction c.ranges.correction in
-    let ws : List ℤ = c.code-correction.new.windows in
-    let is = written z.k z.b w (length c.args.windows.now) c.args.correction C ws c.code-correction.ensures c.window-width-width.ensures c.requires.count same in
+    let ws : List ℤ = c.code_correction.new.windows in
+    let is = written z.k z.b w (length c.args.windows.now) c.args.correction C ws c.code_correction.ensures c.window_width-width.ensures c.requires.count same in
     let f = read_word G c.args.table.now.cells.now (Correction c.args.small) in
     let long : length ws ≡ correction_count z.k z.b = ap length is ∙ correction_length z.k z.b c.args.correction in
     let all = c.gather.ensures in
     record {
-      value = all.value ∙ ap (λ (k : ℕ). gathered G k f ws) c.window-width-width.ensures ∙ ap (gathered G z.k f) is;
+      value = all.value ∙ ap (λ (k : ℕ). gathered G k f ws) c.window_width-width.ensures ∙ ap (gathered G z.k f) is;
       same = all.same;
-      counted = all.counted ∙ ap (λ (n : ℕ). many_rounds n w (d.tally c.args.device.now)) long ∙ ap (λ (k : ℕ). many_rounds (correction_count z.k z.b) k (d.tally c.args.device.now)) c.window-width-width.ensures;
+      counted = all.counted ∙ ap (λ (n : ℕ). many_rounds n w (d.tally c.args.device.now)) long ∙ ap (λ (k : ℕ). many_rounds (correction_count z.k z.b) k (d.tally c.args.device.now)) c.window_width-width.ensures;
     }

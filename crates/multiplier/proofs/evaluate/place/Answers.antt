@@ -8,4 +8,4 @@ returns c =
     let same : h ≡ c.args.h = to_z-of_z w64 c.args.h c.ranges.h in
     let m : to_z w64 c.args.middle ≡ pos c.args.middle = omega (arith, ints, c.ranges.middle.fits) in
     let s : SFits w64 (to_z w64 c.args.middle +ℤ h) = search rules in
-    c.unsigned-abs.ensures.value ∙ ap nat_abs (to_z-of_z w64 (to_z w64 c.args.middle +ℤ h) s ∙ ap₂ ◌+ℤ◌ m same)
+    c.unsigned_abs.ensures.value ∙ ap nat_abs (to_z-of_z w64 (to_z w64 c.args.middle +ℤ h) s ∙ ap₂ ◌+ℤ◌ m same)

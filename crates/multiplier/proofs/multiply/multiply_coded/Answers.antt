@@ -41,7 +41,7 @@ returns g c =
     let two = c.spend.ensures in
     let F = λ (cs : List g.row.D-Element.Denot) (b s : ℕ). small_cells G (window_cells G cs down up (doublings G b base) (climbed G base b s)) (down + up + 1) (top - 1) base in
     let cells_are : c.build.new.cells ≡ F c.args.cells.now z.b s =
-    one.cells ∙ ap₂ (F c.args.cells.now) c.draw-width.ensures c.draw-value-s.ensures in
+    one.cells ∙ ap₂ (F c.args.cells.now) c.draw_width.ensures c.draw_value-s.ensures in
     record {
       value = two.value
           ∙ ap (λ h. evaluated h c.build.new.cells down (down + up + 1) z.k z.b base c.args.words.now c.args.coded.correction c.args.bit) one.same
@@ -51,7 +51,7 @@ returns g c =
       same = two.same ∙ one.same;
       counted = two.counted ∙ ap₂ (sums_work z.k z.b) c.requires.count (
           one.counted
-          ∙ ap (λ (b : ℕ). many_additions (top - 1) (many_additions down (many_additions up (many_rounds b 1 (many_doublings b t))))) c.draw-width.ensures
+          ∙ ap (λ (b : ℕ). many_additions (top - 1) (many_additions down (many_additions up (many_rounds b 1 (many_doublings b t))))) c.draw_width.ensures
           ∙ ap (λ (n : ℕ). many_additions (n - 1) (many_additions down (many_additions up (many_rounds z.b 1 (many_doublings z.b t))))) l.top
           ∙ ap₂ (λ (d u : ℕ). many_additions (2 ^ (z.k - 1) - 1) (many_additions d (many_additions u (many_rounds z.b 1 (many_doublings z.b t))))) l.down l.up
           );

@@ -13,22 +13,22 @@ use Rattle.recoding.proofs.Tests.{both_pass, lent}
 use Rattle.multiplier.proofs.Taken.{digits_held, key_some}
 use Rattle.multiplier.proofs.multiply.multiply_drawn.Goals as goal
 
-pub lowest-bit-bit-requires : goal.lowest-bit-bit-requires
-lowest-bit-bit-requires g c =
+pub lowest_bit-bit-requires : goal.lowest_bit-bit-requires
+lowest_bit-bit-requires g c =
     let z = c.args.sizes in
     let key = c.args.key.now in
     let n : ℕ = length c.args.words.now in
     let first = both_pass (check_refusal z key n) (draw_refusal (g.R.SignRule.rule c.args.rule.now) z c.args.draw) c.requires.untested in
     key_some z key (both_pass (key_refusal z key) (digits_refusal z n) first.0).0
 
-pub slice-bounds-digits-end : goal.slice-bounds-digits-end
-slice-bounds-digits-end g c =
+pub slice_bounds-digits-end : goal.slice_bounds-digits-end
+slice_bounds-digits-end g c =
     let l = lent (g.R.SignRule.rule c.args.rule.now) c.args.sizes c.args.key.now (length c.args.words.now) c.args.draw c.requires.untested in
     let h : c.windows.result ≤ length c.recode.new.words = omega (arith, l.enough, c.recode.auto.words, c.windows.ensures) in
     search (rules, h)
 
-pub multiply-coded-requires : goal.multiply-coded-requires
-multiply-coded-requires g c =
+pub multiply_coded-requires : goal.multiply_coded-requires
+multiply_coded-requires g c =
     let R : Rule = g.R.SignRule.rule c.args.rule.now in
     let z = c.args.sizes in
     let l = lent R z c.args.key.now (length c.args.words.now) c.args.draw c.requires.untested in
@@ -54,17 +54,17 @@ returns g c =
     let ws : List ℤ = c.recode.new.words in
     let made = c.in-Ok.ensures in
     let coded = c.in-Ok.coded in
-    let all = c.multiply-coded.ensures in
+    let all = c.multiply_coded.ensures in
     let count : c.windows.result - 0 ≡ z.m = omega (arith, c.windows.ensures) in
     let held = digits_held z (recoding R z d (half key)).digits c.args.words.now ws made.words c.recode.auto.words l.enough in
     let F = λ (s : ℕ) (ds : List Digit) (x : ℤ) (bit : ℕ). multiplied G z.k z.b base s ds x bit in
     record {
       value = ap Ok (
           all.value
-          ∙ ap (λ (n : ℕ). F coded.draw.value (map decoded (take n ws)) coded.correction c.lowest-bit-bit.result) count
-          ∙ ap (λ (x : Draw). F x.value (digits_in z ws) coded.correction c.lowest-bit-bit.result) made.draw
-          ∙ ap₂ (λ (ds : List Digit) (x : ℤ). F d ds x c.lowest-bit-bit.result) held made.correction
-          ∙ ap (F d (recoding R z d (half key)).digits (recoding R z d (half key)).left) c.lowest-bit-bit.ensures
+          ∙ ap (λ (n : ℕ). F coded.draw.value (map decoded (take n ws)) coded.correction c.lowest_bit-bit.result) count
+          ∙ ap (λ (x : Draw). F x.value (digits_in z ws) coded.correction c.lowest_bit-bit.result) made.draw
+          ∙ ap₂ (λ (ds : List Digit) (x : ℤ). F d ds x c.lowest_bit-bit.result) held made.correction
+          ∙ ap (F d (recoding R z d (half key)).digits (recoding R z d (half key)).left) c.lowest_bit-bit.ensures
           );
       cells = all.cells;
       same = all.same;

@@ -11,11 +11,11 @@ returns g c =
     let all = limits_count R z (g.met.R.SignRule.lawful c.args.rule.now) in
     let lo-fits : SFits w32 c.lo.result = search rules in
     let hi-fits : SFits w32 c.hi.result = search rules in
-    let down = c.unsigned-abs.ensures.value ∙ ap nat_abs (to_z-of_z w32 c.lo.result lo-fits ∙ c.lo.ensures) in
-    let up = c.unsigned-abs-2.ensures.value ∙ ap nat_abs (to_z-of_z w32 c.hi.result hi-fits ∙ c.hi.ensures) in
+    let down = c.unsigned_abs.ensures.value ∙ ap nat_abs (to_z-of_z w32 c.lo.result lo-fits ∙ c.lo.ensures) in
+    let up = c.unsigned_abs-2.ensures.value ∙ ap nat_abs (to_z-of_z w32 c.hi.result hi-fits ∙ c.hi.ensures) in
     let half = half_most z in
-    let power : 2 ^ (c.window-width.result - 1) ≡ 2 ^ (z.k - 1) = ap (λ n. 2 ^ (n - 1)) c.window-width.ensures in
-    let top : 1 * 2 ^ (c.window-width.result - 1) % 2 ^ 64 ≡ 2 ^ (z.k - 1) = omega (arith, power, half) in
+    let power : 2 ^ (c.window_width.result - 1) ≡ 2 ^ (z.k - 1) = ap (λ n. 2 ^ (n - 1)) c.window_width.ensures in
+    let top : 1 * 2 ^ (c.window_width.result - 1) % 2 ^ 64 ≡ 2 ^ (z.k - 1) = omega (arith, power, half) in
     record {
       down = down;
       up = up;
