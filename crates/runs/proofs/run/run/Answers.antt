@@ -7,8 +7,8 @@ loop-task-init g c = going_none _ _ _ _ (g.met.D.GroupDevice.lawful c.args.devic
 
 pub loop-task-preserved : goal.loop-task-preserved
 loop-task-preserved g c =
-    let one = c.run-one.ensures in
-    going_more _ _ _ _ (g.met.D.GroupDevice.lawful c.args.device.now) _ c.loop-task.device c.loop-task.tasks c.loop-task.task-index c.run-one.new.device c.task-item.result c.run-one.new.task
+    let one = c.run_one.ensures in
+    going_more _ _ _ _ (g.met.D.GroupDevice.lawful c.args.device.now) _ c.loop-task.device c.loop-task.tasks c.loop-task.task-index c.run_one.new.device c.task-item.result c.run_one.new.task
     (omega arith) c.loop-task.invariant one.made one.ask one.words one.cells
 
 pub returns : goal.returns
