@@ -11,11 +11,11 @@ use Rattle.exchange_lines.proofs.answer.answer_sums.Goals as goal
 pub returns-in-Ok-2 : goal.returns-in-Ok-2
 returns-in-Ok-2 c =
     in_group group_of tally_of (in_range c.args.modulus) (sums c.args.modulus) (brought c.args.sides.first) (brought c.args.sides.second) (sums_element c.args.base) c.in-Ok.device c.in-Ok-new.device c.in-Ok.ensures c.in-Ok-new.ensures
-    c.sums-element.result c.sums-element.ensures.is c.in-ok-told.field-0 c.in-ok-told.ensures _
-    (ap Agreed (c.sums-told.ensures c.args.modulus) ∙ sym (ap (answer_from (λ e. coordinates ((sums c.args.modulus).code e))) c.in-Ok-2.is))
+    c.sums_element.result c.sums_element.ensures.is c.in_ok-told.field-0 c.in_ok-told.ensures _
+    (ap Agreed (c.sums_told.ensures c.args.modulus) ∙ sym (ap (answer_from (λ e. coordinates ((sums c.args.modulus).code e))) c.in-Ok-2.is))
 
 pub returns-in-Err-2 : goal.returns-in-Err-2
 returns-in-Err-2 c =
     in_group group_of tally_of (in_range c.args.modulus) (sums c.args.modulus) (brought c.args.sides.first) (brought c.args.sides.second) (sums_element c.args.base) c.in-Ok.device c.in-Ok-new.device c.in-Ok.ensures c.in-Ok-new.ensures
-    c.sums-element.result c.sums-element.ensures.is c.in-ok-told.field-0 c.in-ok-told.ensures _
+    c.sums_element.result c.sums_element.ensures.is c.in_ok-told.field-0 c.in_ok-told.ensures _
     (sym (ap (answer_from (λ e. coordinates ((sums c.args.modulus).code e))) c.in-Err-2.is))

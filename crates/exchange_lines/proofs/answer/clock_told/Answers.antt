@@ -5,5 +5,5 @@ use Rattle.exchange_lines.proofs.answer.clock_told.Goals as goal
 
 pub returns : goal.returns
 returns c n =
-    in_pairs_lem (λ a. coordinates ((clock n).code a)) c.args.told c.clock-pair.result c.clock-pair-2.result c.clock-pair-3.result c.account-at.result c.account-at-2.result
-    (c.clock-pair.ensures n) (c.clock-pair-2.ensures n) (c.clock-pair-3.ensures n) c.account-at.ensures c.account-at-2.ensures
+    in_pairs_lem (λ a. coordinates ((clock n).code a)) c.args.told c.clock_pair.result c.clock_pair-2.result c.clock_pair-3.result c.account_at.result c.account_at-2.result
+    (c.clock_pair.ensures n) (c.clock_pair-2.ensures n) (c.clock_pair-3.ensures n) c.account_at.ensures c.account_at-2.ensures

@@ -5,5 +5,5 @@ use Rattle.exchange_lines.proofs.answer.sums_told.Goals as goal
 
 pub returns : goal.returns
 returns c n =
-    in_pairs_lem (λ a. coordinates ((sums n).code a)) c.args.told c.sums-pair.result c.sums-pair-2.result c.sums-pair-3.result c.account-at.result c.account-at-2.result
-    (c.sums-pair.ensures n) (c.sums-pair-2.ensures n) (c.sums-pair-3.ensures n) c.account-at.ensures c.account-at-2.ensures
+    in_pairs_lem (λ a. coordinates ((sums n).code a)) c.args.told c.sums_pair.result c.sums_pair-2.result c.sums_pair-3.result c.account_at.result c.account_at-2.result
+    (c.sums_pair.ensures n) (c.sums_pair-2.ensures n) (c.sums_pair-3.ensures n) c.account_at.ensures c.account_at-2.ensures

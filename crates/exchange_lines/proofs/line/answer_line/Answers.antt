@@ -11,14 +11,14 @@ use Rattle.exchange_lines.proofs.line.answer_line.Goals as goal
 asks : (line trim : List ℕ) (o : Option Request) → trim ≡ trimmed line → option_map view o ≡ requested trim → requested (trimmed line) ≡ option_map view o
 asks line trim o e r = ap requested (sym e) ∙ sym r
 
-pub returns-in-default : goal.returns-in-default
-returns-in-default c =
-    let e = asks c.args.line.now c.trim.result.now c.in-ok-request.field-0 c.trim.ensures c.in-ok-request.ensures ∙ ap (option_map view) c.in-default.is in
-    subst (λ (o : Option Asked). Said o Unreadable (vec_items c.args.out.now) (vec_items c.extend-from-slice.new.self)) (sym e) (refl, c.in-ok-extend-from-slice.ensures.items)
+pub returns-in_default : goal.returns-in_default
+returns-in_default c =
+    let e = asks c.args.line.now c.trim.result.now c.in_ok-request.field-0 c.trim.ensures c.in_ok-request.ensures ∙ ap (option_map view) c.in_default.is in
+    subst (λ (o : Option Asked). Said o Unreadable (vec_items c.args.out.now) (vec_items c.extend_from_slice.new.self)) (sym e) (refl, c.in_ok-extend_from_slice.ensures.items)
 
 pub returns : goal.returns
 returns c =
-    let e = asks c.args.line.now c.trim.result.now c.in-ok-request.field-0 c.trim.ensures c.in-ok-request.ensures ∙ ap (option_map view) c.in-Some.is in
-    let t = c.in-ok-extend-from-slice-2.ensures.items ∙ ap (λ (l : List ℕ). l ++ codes "\n") c.in-ok-write-answer.ensures in
-    subst (λ (o : Option Asked). Said o c.kind-of.result (vec_items c.args.out.now) (vec_items c.extend-from-slice-2.new.self)) (sym e)
-    (c.in-ok-answer.answer, c.in-ok-answer.ensures, c.kind-of.ensures, t)
+    let e = asks c.args.line.now c.trim.result.now c.in_ok-request.field-0 c.trim.ensures c.in_ok-request.ensures ∙ ap (option_map view) c.in-Some.is in
+    let t = c.in_ok-extend_from_slice-2.ensures.items ∙ ap (λ (l : List ℕ). l ++ codes "\n") c.in_ok-write_answer.ensures in
+    subst (λ (o : Option Asked). Said o c.kind_of.result (vec_items c.args.out.now) (vec_items c.extend_from_slice-2.new.self)) (sym e)
+    (c.in_ok-answer.answer, c.in_ok-answer.ensures, c.kind_of.ensures, t)

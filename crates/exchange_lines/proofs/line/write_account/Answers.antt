@@ -6,8 +6,8 @@ use Rattle.exchange_lines.proofs.line.write_account.Goals as goal
 pub returns : goal.returns
 returns c =
     five (vec_items c.args.out.now) (pair_text c.args.account.handed) (codes " tally ") (tally_text c.args.account.tally) (codes " plain ") (tally_text c.args.account.plain)
-    c.in-ok-write-pair.ensures
-    c.in-ok-extend-from-slice.ensures.items
-    c.in-ok-write-tally.ensures
-    c.in-ok-extend-from-slice-2.ensures.items
-    c.in-ok-write-tally-2.ensures
+    c.in_ok-write_pair.ensures
+    c.in_ok-extend_from_slice.ensures.items
+    c.in_ok-write_tally.ensures
+    c.in_ok-extend_from_slice-2.ensures.items
+    c.in_ok-write_tally-2.ensures

@@ -5,6 +5,6 @@ use Rattle.exchange_lines.proofs.line.write_pair.Goals as goal
 pub returns : goal.returns
 returns c =
     three (vec_items c.args.out.now) (decimal c.args.pair.x) (codes " ") (decimal c.args.pair.y)
-    c.in-ok-push-number.ensures.items
-    c.in-ok-extend-from-slice.ensures.items
-    c.in-ok-push-number-2.ensures.items
+    c.in_ok-push_number.ensures.items
+    c.in_ok-extend_from_slice.ensures.items
+    c.in_ok-push_number-2.ensures.items

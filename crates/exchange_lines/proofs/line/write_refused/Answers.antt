@@ -7,6 +7,6 @@ use Rattle.exchange_lines.proofs.line.write_refused.Goals as goal
 pub returns : goal.returns
 returns c =
     three (vec_items c.args.out.now) (refusal_text c.args.refused.refusal) (codes " ") (party_text c.args.refused.party)
-    c.in-ok-write-refusal.ensures
-    c.in-ok-extend-from-slice.ensures.items
-    c.in-ok-write-party.ensures
+    c.in_ok-write_refusal.ensures
+    c.in_ok-extend_from_slice.ensures.items
+    c.in_ok-write_party.ensures

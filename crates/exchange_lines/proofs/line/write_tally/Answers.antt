@@ -5,8 +5,8 @@ use Rattle.exchange_lines.proofs.line.write_tally.Goals as goal
 pub returns : goal.returns
 returns c =
     five (vec_items c.args.out.now) (decimal c.args.tally.doublings) (codes " ") (decimal c.args.tally.additions) (codes " ") (decimal c.args.tally.trace)
-    c.in-ok-push-number.ensures.items
-    c.in-ok-extend-from-slice.ensures.items
-    c.in-ok-push-number-2.ensures.items
-    c.in-ok-extend-from-slice-2.ensures.items
-    c.in-ok-push-number-3.ensures.items
+    c.in_ok-push_number.ensures.items
+    c.in_ok-extend_from_slice.ensures.items
+    c.in_ok-push_number-2.ensures.items
+    c.in_ok-extend_from_slice-2.ensures.items
+    c.in_ok-push_number-3.ensures.items
