@@ -1,9 +1,9 @@
 -- The answer to a request, from what the recoding and the check said.
-use Rattle.std.proofs.Common.{◌≡◌, ℕ, Bool, true, List, [], ◌++◌, map, length, drop, replicate, ℤ, pos, Some, None, vec_items, Decides, Option, sym, refl, ap, ◌∙◌, subst, ap₂, arith}
+use Rattle.std.proofs.Common.{◌≡◌, ℕ, Bool, List, [], ◌++◌, map, length, drop, ℤ, pos, Some, None, vec_items, Decides, Option, sym, ap, ◌∙◌, subst, ap₂, arith}
 use Rattle.common.specs.declared.refusal.Refusal.{Refusal}
 use Rattle.console.specs.declared.answer.Answer.TheVariants.{Recoded, Refused}
 use Rattle.console.specs.declared.answer.Recoding.{Recoding}
-use Rattle.console.specs.Answers.{Coded, Codes, Unless, Drawn}
+use Rattle.console.specs.Answers.{Codes, Unless, Drawn}
 use Rattle.console.specs.Requests.{Asked}
 use Rattle.inputs.specs.declared.draw.Draw.{Draw}
 use Rattle.inputs.specs.declared.sizes.Sizes.{Sizes}

@@ -1,5 +1,5 @@
 -- How a request is answered: by the first refusal of its tests, or by the recoding, which the check accepts.
-use Rattle.std.specs.Prelude.{◌≡◌, ℕ, true, List, map, Some, None, vec_items, Option}
+use Rattle.std.specs.Prelude.{◌≡◌, ℕ, true, map, Some, None, vec_items, Option}
 use Rattle.common.specs.declared.refusal.Refusal.{Refusal}
 use Rattle.common.specs.declared.refusal.Refusal.TheVariants.{DrawsExhausted}
 use Rattle.console.specs.declared.answer.Answer.{Answer}
@@ -9,7 +9,7 @@ use Rattle.console.specs.Requests.{Asked}
 use Rattle.inputs.specs.declared.sizes.Sizes.{Sizes}
 use Rattle.inputs.specs.Draws.{Found, first_draw}
 use Rattle.inputs.specs.Keys.{half, key_refusal}
-use Rattle.inputs.specs.Rules.{Rule, rule_of}
+use Rattle.inputs.specs.Rules.{rule_of}
 use Rattle.inputs.specs.Sizes.{sizes_refusal}
 use Rattle.recoding.specs.Digits.{encoded}
 use Rattle.recoding.specs.Windows.{recoding}

@@ -1,5 +1,5 @@
 -- What both rounds of an exchange come to. Assumes nothing.
-use Rattle.std.proofs.Common.{◌≡◌, ℕ, true, cond, List, [], ◌∷◌, map, Some, None, Ok, Err, Option, Result, sym, refl, ap, ◌∙◌, subst, ap₂, arith}
+use Rattle.std.proofs.Common.{◌≡◌, ℕ, cond, map, Some, Ok, Err, Result, sym, refl, ap, ◌∙◌, subst, ap₂, arith}
 use Rattle.common.specs.declared.refusal.Refusal.{Refusal}
 use Rattle.exchange.specs.declared.exchange.Agreement.{Agreement}
 use Rattle.exchange.specs.declared.exchange.Both.{Both}

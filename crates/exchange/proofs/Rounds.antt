@@ -1,20 +1,19 @@
 -- One task on one device, out of the law of a run. Assumes nothing.
-use Rattle.std.proofs.Common.{◌≡◌, ℕ, ◌+◌, ◌-◌, ◌≤◌, min, Bool, true, false, cond, ltb, List, [], ◌∷◌, ◌++◌, map, length, drop, replicate, Some, None, vec_items, Option, Result, sym, refl, ap, ◌∙◌, subst, arith, ltb-false}
+use Rattle.std.proofs.Common.{◌≡◌, ℕ, ◌≤◌, min, Bool, true, false, cond, ltb, List, [], ◌∷◌, ◌++◌, length, drop, replicate, Some, None, vec_items, Option, Result, sym, refl, ap, ◌∙◌, subst, arith, ltb-false}
 use Rattle.common.specs.declared.refusal.Refusal.{Refusal}
 use Rattle.common.specs.declared.refusal.Refusal.TheVariants.{TableTooShort}
 use Rattle.exchange.specs.Exchanges.{Brought, Ran, answered, asking, posed}
 use Rattle.groups.specs.declared.tally.Tally.{Tally}
 use Rattle.groups.specs.Groups.{Group}
 use Rattle.inputs.specs.declared.window_rule.WindowRule.{WindowRule}
-use Rattle.inputs.specs.Rules.{Rule, rule_of}
+use Rattle.inputs.specs.Rules.{rule_of}
 use Rattle.inputs.specs.Tests.{or_else}
 use Rattle.multiplier.specs.Calls.{Answered, Call, answer_of, base_refusal, cells_after, cells_needed, counted, draw_of, draws_refusal, entry, mark_after, refusal_of, table_refusal, unless_refused}
 use Rattle.recoding.proofs.Tests.{both_pass}
 use Rattle.recoding.specs.Codings.{check_refusal}
-use Rattle.recoding.specs.Digits.{zeros}
 use Rattle.runs.specs.declared.task.Ask.{Ask}
 use Rattle.runs.specs.declared.task.Task.{Task}
-use Rattle.runs.specs.Tasks.{Lawful-run, call, calls, cells_left, cells_of, words_left, words_of}
+use Rattle.runs.specs.Tasks.{Lawful-run, call, cells_left, cells_of, words_left, words_of}
 use Rattle.std.proofs.lemmas.List.{length-append, length-drop, length-map, length-replicate}
 
 -- a table that is not refused is long enough

@@ -1,5 +1,5 @@
 -- An answer in a group, from the exchange on two new devices. Assumes nothing.
-use Rattle.std.proofs.Common.{◌≡◌, ℕ, Bool, cond, IfOk, Ok, Err, Result, sym, refl, ap, ◌∙◌, subst, arith}
+use Rattle.std.proofs.Common.{◌≡◌, ℕ, Bool, IfOk, Ok, Err, Result, sym, refl, ap, ◌∙◌, subst, arith}
 use Rattle.exchange_lines.specs.declared.answer.Answer.{Answer}
 use Rattle.exchange_lines.specs.declared.answer.Answer.TheVariants.{Agreed}
 use Rattle.exchange_lines.specs.declared.answer.Told.{Told}

@@ -1,6 +1,5 @@
 -- The first admitted draw.
-use Rattle.std.proofs.Common.{◌≡◌, ℕ, zero, suc, ◌+◌, ◌-◌, ◌*◌, ◌/◌, ◌%◌, ◌^◌, ◌<◌, ◌≤◌, Bool, true, false, cond, List, ◌∷◌, length, get_or, take, drop, Some, None, Option, sym, refl, ap, ◌∙◌, subst, ap₂, add-zero, pow-suc, zero-mul, div-mul-le_self, add-one, arith, lit<}
-use native.Mathlib.Decide.{dec_lt}
+use Rattle.std.proofs.Common.{◌≡◌, ℕ, zero, suc, ◌+◌, ◌-◌, ◌*◌, ◌/◌, ◌%◌, ◌^◌, ◌<◌, ◌≤◌, Bool, true, false, cond, List, length, get_or, take, drop, Some, None, sym, refl, ap, ◌∙◌, subst, ap₂, div-mul-le_self, add-one, arith, lit<}
 use native.Mathlib.Nat.{div-eq_of_lt, add-mul-div_right, pow-le-pow_right}
 use Rattle.std.proofs.lemmas.Nat.{le-div, one_shl}
 use Rattle.std.proofs.lemmas.List.{drop_more}

@@ -1,5 +1,5 @@
 -- Which keys are refused.
-use Rattle.std.proofs.Common.{◌≡◌, ℕ, zero, suc, ◌+◌, ◌*◌, ◌^◌, ◌<◌, ◌≤◌, true, false, ltb, leb, List, length, get_or, take, Some, None, sym, refl, ap, ◌∙◌, subst, arith, pow_mono}
+use Rattle.std.proofs.Common.{◌≡◌, ℕ, zero, suc, ◌^◌, ◌<◌, ◌≤◌, true, false, List, length, get_or, take, Some, None, sym, ap, subst, arith, pow_mono}
 use native.Mathlib.Decide.{dec_lt, dec_le}
 use Rattle.common.specs.declared.refusal.Refusal.TheVariants.{KeyLength, KeyTooLarge}
 use Rattle.std.proofs.lemmas.List.{take_all}

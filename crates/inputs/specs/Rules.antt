@@ -1,10 +1,8 @@
 -- Sign rules: what one answers, the laws that each keeps, and the three rules by their table.
-use Rattle.std.specs.Prelude.{◌≡◌, ℕ, ◌+◌, ◌-◌, ◌^◌, ◌<◌, ◌≤◌, Bool, true, false, cond, ℤ, pos, negsuc, ◌+ℤ◌, ◌-ℤ◌, ◌*ℤ◌, neg_ℤ, ◌≤ℤ◌, ◌<ℤ◌, Some, None, Option, ◌==◌, int_div, int_lt, nat_lt}
+use Rattle.std.specs.Prelude.{◌≡◌, ℕ, ◌+◌, ◌-◌, ◌^◌, ◌<◌, Bool, true, cond, ℤ, pos, negsuc, ◌+ℤ◌, ◌-ℤ◌, ◌*ℤ◌, neg_ℤ, ◌≤ℤ◌, ◌<ℤ◌, Some, None, Option, ◌==◌, int_div, int_lt, nat_lt}
 use Rattle.std.specs.Int.Signed.{le_z}
 use Rattle.inputs.specs.declared.sign.Choice.{Choice}
-use Rattle.inputs.specs.declared.sign.Sign.{Sign}
 use Rattle.inputs.specs.declared.sign.Sign.TheVariants.{Plus, Minus}
-use Rattle.inputs.specs.declared.sign.Carry.{Carry}
 use Rattle.inputs.specs.declared.sign.Carry.TheVariants.{Down, Zero, Up}
 use Rattle.inputs.specs.declared.window_rule.WindowRule.{WindowRule}
 use Rattle.inputs.specs.declared.window_rule.WindowRule.TheVariants.{Shifted, Centered, Nonzero}

@@ -4,15 +4,14 @@ use Rattle.std.proofs.Common.{pow_pos, pow-add, pow_mono, sym, ap, ◌∙◌, su
 use Rattle.std.proofs.Math.Pow.{suc_ones}
 use Rattle.std.proofs.lemmas.Int.{ints}
 use Rattle.inputs.specs.declared.sign.Choice.{Choice}
-use Rattle.inputs.specs.declared.sign.Sign.{Sign}
 use Rattle.inputs.specs.declared.sign.Sign.TheVariants.{Plus, Minus}
 use Rattle.inputs.specs.declared.sign.Carry.{Carry}
 use Rattle.inputs.specs.declared.sign.Carry.TheVariants.{Down, Zero, Up}
 use Rattle.inputs.specs.declared.window_rule.WindowRule.{WindowRule}
 use Rattle.inputs.specs.declared.window_rule.WindowRule.TheVariants.{Shifted, Centered, Nonzero}
-use Rattle.inputs.specs.Signs.{signed, sign_value, carry_value}
+use Rattle.inputs.specs.Signs.{signed, carry_value}
 use Rattle.inputs.specs.Sizes.{Widths}
-use Rattle.inputs.specs.Rules.{Rule, Lawful, Reached, Admitted, remainder, digit, table, rule_of, lowest, highest}
+use Rattle.inputs.specs.Rules.{Lawful, Reached, Admitted, digit, table, rule_of, lowest, highest}
 use Rattle.inputs.specs.Quotients.{quot_bounds}
 
 -- the four rows of the table

@@ -1,5 +1,5 @@
 -- Texts that are appended piece by piece, and lines that end in no carriage return.
-use Rattle.std.proofs.Common.{◌≡◌, ℕ, ◌-◌, eqb, List, ◌++◌, length, get_or, append_assoc}
+use Rattle.std.proofs.Common.{◌≡◌, ℕ, ◌-◌, List, ◌++◌, length, get_or, append_assoc}
 use Rattle.std.proofs.lemmas.Bool.{ne_eqb}
 use Rattle.lines.specs.Lines.{trimmed}
 

@@ -1,5 +1,5 @@
 -- One round more of the climb by the bits of a number. Assumes nothing.
-use Rattle.std.proofs.Common.{◌≡◌, ℕ, zero, suc, ◌/◌, ◌%◌, ◌^◌, sym, ap, ◌∙◌, add-one}
+use Rattle.std.proofs.Common.{◌≡◌, ℕ, suc, ◌/◌, ◌%◌, ◌^◌, sym, ap, ◌∙◌, add-one}
 use Rattle.std.proofs.lemmas.Nat.{shr-shr}
 use Rattle.groups.specs.Groups.{Group, added, doubled}
 use Rattle.steps.specs.Operations.{chosen, climbed}

@@ -1,5 +1,5 @@
 -- The limits of a lawful rule as counts of cells. Assumes nothing.
-use Rattle.std.proofs.Common.{◌≡◌, ℕ, suc, ◌+◌, ◌-◌, ◌^◌, ◌≤◌, ℤ, pos, negsuc, ◌-ℤ◌, neg_ℤ, nat_abs, ◌≤ℤ◌, sym, refl, ap, ◌∙◌, arith, pow_mono}
+use Rattle.std.proofs.Common.{◌≡◌, ℕ, ◌+◌, ◌-◌, ◌^◌, ◌≤◌, ℤ, pos, negsuc, ◌-ℤ◌, neg_ℤ, nat_abs, ◌≤ℤ◌, ap, arith, pow_mono}
 use Rattle.std.proofs.lemmas.Int.{ints}
 use Rattle.inputs.specs.declared.sizes.Sizes.{Sizes}
 use Rattle.inputs.specs.Rules.{Rule, Lawful}

@@ -4,14 +4,13 @@ use Rattle.std.proofs.lemmas.List.{get_or-set_same, get_or-set_other, length-set
 use Rattle.std.proofs.lemmas.Int.{ints}
 use Rattle.groups.specs.Groups.{Group, added, doubled, negated}
 use Rattle.inputs.specs.Signs.{signed}
-use Rattle.recoding.specs.declared.digit.Digit.{Digit}
 use Rattle.recoding.specs.Codings.{Within}
 use Rattle.recoding.specs.Digits.{decoded}
 use Rattle.steps.proofs.LowWindows.{SmallAll, correction_small_lem}
 use Rattle.steps.specs.Operations.{additions, chosen, climbed, doublings, gathered}
 use Rattle.steps.specs.Corrections.{correction_windows}
 use Rattle.steps.specs.Steps.{digit_addend, multiplied, small_addend, small_entry, turned, window_entry}
-use Rattle.multiplier.specs.Tables.{AllReach, evaluated, filled_down, filled_up, read_word, small_cells, window_cells}
+use Rattle.multiplier.specs.Tables.{AllReach, evaluated, filled_up, read_word, small_cells, window_cells}
 use Rattle.multiplier.specs.declared.table.Part.TheVariants.{Windows, Correction}
 use Rattle.multiplier.proofs.Filling.{down_at, down_length, down_other, up_at, up_length, up_other}
 

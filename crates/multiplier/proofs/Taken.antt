@@ -1,12 +1,12 @@
 -- What the tests of a call leave to be taken. Assumes nothing.
-use Rattle.std.proofs.Common.{◌≡◌, ℕ, ◌+◌, ◌-◌, ◌^◌, ◌≤◌, Bool, true, false, cond, ◌||◌, ltb, leb, List, ◌++◌, map, length, take, drop, ℤ, Some, None, Option, sym, refl, ap, ◌∙◌, subst, arith}
+use Rattle.std.proofs.Common.{◌≡◌, ℕ, ◌+◌, ◌^◌, ◌≤◌, Bool, true, false, cond, ◌||◌, ltb, leb, List, ◌++◌, map, length, take, drop, ℤ, Some, None, Option, refl, ap, ◌∙◌, arith}
 use Rattle.std.proofs.lemmas.List.{length-append, length-drop, take_at}
 use Rattle.std.proofs.lemmas.Bool.{ltb-false}
 use Rattle.common.specs.declared.refusal.Refusal.{Refusal}
 use Rattle.common.specs.declared.refusal.Refusal.TheVariants.{KeyLength, KeyTooLarge}
 use Rattle.inputs.specs.declared.sizes.Sizes.{Sizes}
 use Rattle.inputs.specs.Keys.{highest_bit, key_refusal, scalar}
-use Rattle.inputs.specs.Sizes.{key_bits, outside}
+use Rattle.inputs.specs.Sizes.{key_bits}
 use Rattle.recoding.specs.declared.digit.Digit.{Digit}
 use Rattle.recoding.specs.Codings.{digits_in}
 use Rattle.recoding.specs.Digits.{decoded, encoded}

@@ -1,8 +1,7 @@
 -- The cells of a table: how the steps fill them, and what a word reads there. Assumes nothing.
-use Rattle.std.specs.Prelude.{ℕ, zero, suc, ◌+◌, ◌-◌, ◌^◌, ◌<◌, List, [], ◌∷◌, ℤ, pos, negsuc, ◌+ℤ◌, neg_ℤ, slice_index_or, slice_set, unsigned_abs}
+use Rattle.std.specs.Prelude.{ℕ, zero, suc, ◌+◌, ◌-◌, ◌<◌, List, [], ◌∷◌, ℤ, pos, negsuc, ◌+ℤ◌, neg_ℤ, slice_index_or, slice_set, unsigned_abs}
 use Rattle.groups.specs.Groups.{Group, added, doubled, negated}
 use Rattle.inputs.specs.Signs.{signed}
-use Rattle.recoding.specs.declared.digit.Digit.{Digit}
 use Rattle.recoding.specs.Digits.{decoded}
 use Rattle.steps.specs.Corrections.{correction_windows}
 use Rattle.steps.specs.Operations.{chosen, gathered}

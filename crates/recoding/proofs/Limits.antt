@@ -1,6 +1,5 @@
 -- Digits within their limits, tested one by one.
-use Rattle.std.proofs.Common.{◌≡◌, ℕ, zero, suc, ◌+◌, ◌<◌, ◌≤◌, Bool, true, false, List, [], ◌∷◌, map, length, get_or, take, ℤ, pos, ◌≤ℤ◌, sym, refl, ap, ◌∙◌, subst, add-one, arith}
-use Rattle.recoding.specs.declared.digit.Digit.{Digit}
+use Rattle.std.proofs.Common.{◌≡◌, ℕ, zero, suc, ◌+◌, ◌<◌, true, false, List, [], ◌∷◌, map, length, get_or, take, ℤ, pos, ◌≤ℤ◌, add-one, arith}
 use Rattle.recoding.specs.Codings.{Within}
 use Rattle.recoding.specs.Digits.{decoded}
 use Rattle.inputs.specs.Signs.{signed}

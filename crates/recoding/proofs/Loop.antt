@@ -1,6 +1,6 @@
 -- What the loop of the recoding keeps.
-use Rattle.std.proofs.Common.{◌≡◌, ℕ, zero, suc, ◌+◌, ◌-◌, ◌*◌, ◌/◌, ◌%◌, ◌^◌, ◌<◌, ◌≤◌, cond, ltb, List, [], ◌∷◌, ◌++◌, map, length, get_or, drop, ℤ, pos, negsuc, ◌+ℤ◌, ◌-ℤ◌, ◌*ℤ◌, neg_ℤ, ◌≤ℤ◌, ◌<ℤ◌, sym, refl, ap, ◌∙◌, subst, ap₂, zero-le, le_trans, add-zero, mod-lt, mod-eq_of_lt, mul_comm, mul-zero, div-one, sub-one, arith, pow_pos, pow_mono, pow-add}
-use native.Mathlib.Nat.{sub_self, sub-zero}
+use Rattle.std.proofs.Common.{◌≡◌, ℕ, zero, suc, ◌+◌, ◌-◌, ◌*◌, ◌/◌, ◌%◌, ◌^◌, ◌<◌, ◌≤◌, cond, ltb, List, [], ◌∷◌, ◌++◌, map, length, get_or, drop, ℤ, pos, negsuc, ◌+ℤ◌, ◌*ℤ◌, ◌≤ℤ◌, ◌<ℤ◌, sym, refl, ap, ◌∙◌, subst, ap₂, zero-le, le_trans, add-zero, mod-lt, mod-eq_of_lt, mul_comm, mul-zero, div-one, sub-one, arith, pow_pos, pow_mono, pow-add}
+use native.Mathlib.Nat.{sub_self}
 use Rattle.std.proofs.lemmas.Nat.{shr-shr, shr_below}
 use Rattle.std.proofs.lemmas.List.{get_or-drop, take_at}
 use Rattle.std.proofs.lemmas.Int.{ints}
@@ -10,14 +10,14 @@ use Rattle.inputs.specs.declared.sign.Choice.{Choice}
 use Rattle.inputs.specs.declared.sign.Sign.{Sign}
 use Rattle.inputs.specs.declared.sign.Sign.TheVariants.{Plus, Minus}
 use Rattle.inputs.specs.declared.sizes.Sizes.{Sizes}
-use Rattle.recoding.specs.Codings.{total, Within, Coding, digits_in}
+use Rattle.recoding.specs.Codings.{Coding, digits_in}
 use Rattle.recoding.specs.Digits.{encoded, decoded, carried, raised}
 use Rattle.inputs.specs.Keys.{bits_at}
 use Rattle.inputs.specs.Rules.{Rule, Lawful, Admitted, Reached, digit, rest}
 use Rattle.inputs.specs.Signs.{signed, carry_value}
 use Rattle.inputs.specs.Sizes.{Widths, key_bits}
 use Rattle.recoding.specs.Windows.{State, put, below, recoding}
-use Rattle.recoding.proofs.Equation.{Good, Inner, after, good, windows_are, inner_within, total_value, value}
+use Rattle.recoding.proofs.Equation.{Good, Inner, after, good, windows_are, inner_within, total_value}
 use Rattle.recoding.proofs.Machine.{About}
 use Rattle.recoding.proofs.Windows.{below_range, digit_small, hi_small}
 

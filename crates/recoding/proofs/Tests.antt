@@ -1,5 +1,5 @@
 -- What a chain of tests that names no refusal says.
-use Rattle.std.proofs.Common.{◌≡◌, ℕ, ◌^◌, ◌<◌, ◌≤◌, Bool, true, false, cond, eqb, ltb, leb, List, length, Some, None, Option, sym, refl, ap, ◌∙◌, arith}
+use Rattle.std.proofs.Common.{◌≡◌, ℕ, ◌^◌, ◌<◌, ◌≤◌, Bool, true, false, cond, eqb, ltb, leb, List, length, Some, None, Option, refl, ap, arith}
 use Rattle.common.specs.declared.refusal.Refusal.{Refusal}
 use Rattle.common.specs.declared.refusal.Refusal.TheVariants.{KeyLength, KeyTooLarge, TooFewDigits, UnfitDraw}
 use Rattle.std.proofs.lemmas.Bool.{ltb-false, leb-false, eqb-true, lt-ltb, le-ltb, eq-eqb, ne_eqb}

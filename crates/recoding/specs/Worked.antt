@@ -1,5 +1,5 @@
 -- Worked runs of the recoding: windows of 3 bits, draws of 6 bits, 3 windows, the draw 38.
-use Rattle.std.specs.Prelude.{◌≡◌, ℕ, List, [], ◌∷◌, map, ℤ, pos, negsuc}
+use Rattle.std.specs.Prelude.{◌≡◌, ℕ, [], ◌∷◌, map, ℤ, pos, negsuc}
 use Rattle.recoding.specs.declared.digit.Digit.{Digit}
 use Rattle.inputs.specs.declared.sign.Carry.TheVariants.{Down}
 use Rattle.inputs.specs.declared.sign.Choice.{Choice}

@@ -1,6 +1,6 @@
 -- Calls of which none is accepted. Assumes nothing.
 use Rattle.std.proofs.Common.{◌≡◌, ℕ, Bool, true, false, cond, List, [], ◌∷◌, ◌++◌, map, length, Some, Ok, Err, Option, Result, sym, refl, ap, ◌∙◌, arith}
-use Rattle.std.proofs.lemmas.List.{map-append, length-append}
+use Rattle.std.proofs.lemmas.List.{map-append}
 use Rattle.common.specs.declared.refusal.Refusal.{Refusal}
 use Rattle.groups.specs.Groups.{Group}
 use Rattle.groups.specs.declared.tally.Tally.{Tally}

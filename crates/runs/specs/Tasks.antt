@@ -1,5 +1,5 @@
 -- Tasks as calls, and a run of them. Assumes nothing.
-use Rattle.std.specs.Prelude.{◌≡◌, ℕ, min, List, [], map, length, ℤ, Some, vec_items, vec_len, Result}
+use Rattle.std.specs.Prelude.{◌≡◌, ℕ, min, List, [], map, length, ℤ, Some, vec_items, Result}
 use Rattle.common.specs.declared.refusal.Refusal.{Refusal}
 use Rattle.inputs.specs.Rules.{Rule}
 use Rattle.recoding.specs.Digits.{zeros}

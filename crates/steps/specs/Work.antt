@@ -1,5 +1,5 @@
 -- The plain tally of a multiplication: the operations of the seven steps, in their order, by the rule's limits and the sizes alone. Assumes nothing.
-use Rattle.std.specs.Prelude.{◌≡◌, ℕ, zero, suc, ◌+◌, ◌-◌, ◌*◌, ◌%◌, ◌^◌, ℤ, pos, negsuc, ◌-ℤ◌, unsigned_abs}
+use Rattle.std.specs.Prelude.{◌≡◌, ℕ, zero, suc, ◌+◌, ◌-◌, ◌*◌, ◌%◌, ◌^◌, ℤ, ◌-ℤ◌, unsigned_abs}
 use Rattle.groups.specs.declared.tally.Tally.{Tally}
 use Rattle.groups.specs.Tally.{one_addition, one_doubling}
 use Rattle.steps.specs.Corrections.{correction_count}

@@ -1,4 +1,4 @@
-use Rattle.std.proofs.Common.{◌≡◌, refl, ◌∙◌, w32, SFits, rules}
+use Rattle.std.proofs.Common.{refl, ◌∙◌, w32, SFits, rules}
 use Rattle.std.proofs.lemmas.List.{with_items_is}
 use Rattle.std.proofs.lemmas.Int.{to_z-of_z}
 use Rattle.console.specs.Requests.{view}

@@ -1,4 +1,4 @@
-use Rattle.std.proofs.Common.{◌≡◌, ◌++◌, get_or, pos, vec_items, ap, ◌∙◌, rules}
+use Rattle.std.proofs.Common.{◌++◌, get_or, pos, vec_items, ap, ◌∙◌, rules}
 use Rattle.std.proofs.lemmas.List.{take_all}
 use Rattle.std.proofs.lemmas.Result.{IfOk-from_err}
 use Rattle.std.specs.Fmt.{signed_decimal}

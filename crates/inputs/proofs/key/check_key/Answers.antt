@@ -1,4 +1,4 @@
-use Rattle.std.proofs.Common.{◌≡◌, ◌<◌, ◌≤◌, true, length, arith}
+use Rattle.std.proofs.Common.{◌≡◌, true, length, arith}
 use Rattle.inputs.specs.Sizes.{outside}
 use Rattle.std.proofs.lemmas.Bool.Decides.{nat_tests}
 use Rattle.inputs.proofs.Keys.{length_refused, size_refused, size_taken}

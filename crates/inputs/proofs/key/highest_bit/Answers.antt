@@ -1,4 +1,4 @@
-use Rattle.std.proofs.Common.{◌≡◌, ℕ, suc, ◌+◌, ◌-◌, ◌*◌, ◌^◌, ◌<◌, List, length, get_or, take, Some, Option, sym, refl, ap, ◌∙◌, subst, add-zero, zero-mul, add-one, arith}
+use Rattle.std.proofs.Common.{◌≡◌, ℕ, suc, ◌+◌, ◌-◌, ◌*◌, ◌^◌, ◌<◌, List, length, get_or, take, Some, Option, sym, refl, ap, ◌∙◌, subst, add-one, arith}
 use lib.Count.{count_leading_zeros, leading_top}
 use Rattle.std.proofs.lemmas.List.{take_all}
 use Rattle.inputs.specs.Keys.{scalar, Highest}

@@ -1,4 +1,4 @@
-use Rattle.std.proofs.Common.{ℕ, ◌+◌, ◌*◌, ◌/◌, ◌%◌, ◌^◌, ap, ◌∙◌, ap₂}
+use Rattle.std.proofs.Common.{ℕ, ◌+◌, ◌*◌, ◌/◌, ◌%◌, ◌^◌, ◌∙◌, ap₂}
 use Rattle.inputs.specs.Keys.{scalar}
 use Rattle.inputs.proofs.Words.{half_field}
 use Rattle.inputs.proofs.key.top_bits.Goals as goal

@@ -1,6 +1,4 @@
-use Rattle.std.proofs.Common.{◌≡◌, ℕ, ◌+◌, ◌-◌, List, sym, ap, ◌∙◌}
-use Rattle.groups.specs.declared.tally.Tally.{Tally}
-use Rattle.groups.specs.Groups.{Group}
+use Rattle.std.proofs.Common.{ℕ, ◌+◌, ◌-◌, ap, ◌∙◌}
 use Rattle.steps.specs.Operations.{doublings}
 use Rattle.steps.specs.Work.{many_additions}
 use Rattle.multiplier.specs.Tables.{small_cells, window_cells}

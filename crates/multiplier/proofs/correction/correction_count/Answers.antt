@@ -1,4 +1,4 @@
-use Rattle.std.proofs.Common.{◌≡◌, ℕ, ◌+◌, ◌/◌, ◌≤◌, sym, subst, ap₂, arith}
+use Rattle.std.proofs.Common.{ℕ, ◌+◌, ◌/◌, ◌≤◌, sym, subst, ap₂}
 use Rattle.multiplier.proofs.Corrected.{count_most}
 use Rattle.multiplier.proofs.correction.correction_count.Goals as goal
 

@@ -1,4 +1,4 @@
-use Rattle.std.proofs.Common.{◌≡◌, ℕ, ◌*◌, ◌%◌, ◌^◌, ◌≤◌, arith, pow_pos, pow_mono}
+use Rattle.std.proofs.Common.{◌^◌, ◌≤◌, arith, pow_pos, pow_mono}
 use Rattle.multiplier.proofs.correction.power.Goals as goal
 
 pub returns : goal.returns

@@ -1,4 +1,4 @@
-use Rattle.std.proofs.Common.{◌≡◌, ℕ, ◌+◌, length, ℤ, sym, ap, ◌∙◌, ap₂, arith, w32, SFits, to_z, of_z, rules}
+use Rattle.std.proofs.Common.{◌≡◌, ℕ, ◌+◌, length, ℤ, ap, ◌∙◌, ap₂, w32, SFits, to_z, of_z, rules}
 use Rattle.std.proofs.lemmas.Int.{to_z-of_z}
 use Rattle.groups.specs.Groups.{added, doubled}
 use Rattle.groups.specs.Tally.{one_addition, one_doubling}

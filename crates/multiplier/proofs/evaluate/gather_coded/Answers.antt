@@ -7,7 +7,6 @@ use Rattle.steps.specs.Work.{many_rounds}
 use Rattle.multiplier.specs.Tables.{AllReach, read_word, turned_by}
 use Rattle.multiplier.specs.declared.table.Part.TheVariants.{Correction}
 use Rattle.multiplier.proofs.Corrected.{small_reach, turned_are}
-use Rattle.multiplier.proofs.evaluate.gather_coded.Given as given
 use Rattle.multiplier.proofs.evaluate.gather_coded.Goals as goal
 
 -- the words that are written are the windows of the correction

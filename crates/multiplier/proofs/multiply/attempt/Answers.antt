@@ -1,9 +1,8 @@
-use Rattle.std.proofs.Common.{◌≡◌, ℕ, ◌+◌, ◌-◌, ◌≤◌, length, take, drop, replicate, Some, None, Ok, Err, Option, sym, refl, ap, ◌∙◌, subst, ap₂, zero-le, arith, length-take, rules}
+use Rattle.std.proofs.Common.{◌≡◌, ℕ, ◌-◌, ◌≤◌, length, take, drop, replicate, Some, None, Err, Option, sym, refl, ap, ◌∙◌, zero-le, arith, length-take, rules}
 use borrow.Rule.Slice.PartMut.{Post-is}
 use Rattle.common.specs.declared.refusal.Refusal.{Refusal}
 use Rattle.inputs.specs.Draws.{Found, first_draw}
 use Rattle.inputs.specs.Rules.{Rule}
-use Rattle.inputs.specs.Tests.{or_else}
 use Rattle.recoding.specs.Codings.{check_refusal}
 use Rattle.recoding.proofs.Tests.{both_pass}
 use Rattle.multiplier.specs.Calls.{asked, base_refusal, cells_needed, drawn_mark, drawn_value, draws_refusal, keyed, refusal_of, table_refusal}

@@ -1,4 +1,4 @@
-use Rattle.std.proofs.Common.{◌≡◌, ℕ, ◌*◌, ◌%◌, ◌^◌, ◌≤◌, List, [], ◌∷◌, length, get_or, arith}
+use Rattle.std.proofs.Common.{◌≡◌, ℕ, ◌%◌, ◌≤◌, List, [], ◌∷◌, length, get_or, arith}
 use Rattle.inputs.specs.Keys.{scalar}
 use Rattle.multiplier.proofs.multiply.lowest_bit.Goals as goal
 

@@ -1,6 +1,6 @@
-use Rattle.std.proofs.Common.{◌≡◌, ℕ, [], ◌∷◌, length, ap, ◌∙◌, subst, rules}
+use Rattle.std.proofs.Common.{ℕ, [], ◌∷◌, length, ap, ◌∙◌, subst, rules}
 use Rattle.inputs.specs.Rules.{Rule}
-use Rattle.multiplier.specs.Calls.{Call, Made, asked, cells_after}
+use Rattle.multiplier.specs.Calls.{Made, asked, cells_after}
 use Rattle.multiplier.proofs.Lawfully.{goes_on_by, lawful_one}
 use Rattle.multiplier.proofs.multiply.multiply.Goals as goal
 

@@ -1,4 +1,4 @@
-use Rattle.std.proofs.Common.{◌≡◌, ℕ, ◌+◌, ◌-◌, ◌^◌, ◌<◌, List, length, replicate, ℤ, sym, ap, ◌∙◌, subst, ap₂, arith, rules}
+use Rattle.std.proofs.Common.{◌≡◌, ℕ, ◌+◌, ◌-◌, ◌^◌, ◌<◌, List, length, replicate, ap, ◌∙◌, ap₂, arith}
 use Rattle.inputs.specs.Rules.{Rule}
 use Rattle.steps.specs.Operations.{climbed, doublings}
 use Rattle.steps.specs.Work.{many_additions, many_doublings, many_rounds, sums_work}

@@ -1,4 +1,4 @@
-use Rattle.std.proofs.Common.{◌≡◌, ℕ, ◌+◌, length, replicate, ap, ◌∙◌, ap₂, rules}
+use Rattle.std.proofs.Common.{◌+◌, length, replicate, ap, ◌∙◌, ap₂, rules}
 use Rattle.multiplier.specs.Tables.{evaluated}
 use Rattle.multiplier.proofs.multiply.spend.Goals as goal
 

@@ -1,9 +1,8 @@
-use Rattle.std.proofs.Common.{◌≡◌, ℕ, suc, ◌-◌, ◌/◌, ◌%◌, ◌^◌, sym, refl, ap, ◌∙◌, div-one, arith}
+use Rattle.std.proofs.Common.{◌≡◌, ℕ, suc, ◌-◌, ◌/◌, ◌%◌, ◌^◌, refl, ap, ◌∙◌, div-one, arith}
 use native.Mathlib.Nat.{sub_self}
 use Rattle.groups.specs.Groups.{added}
 use Rattle.groups.specs.Tally.{one_addition, one_doubling}
 use Rattle.steps.specs.Operations.{chosen, climbed, doublings}
-use Rattle.steps.specs.Work.{many_doublings}
 use Rattle.multiplier.proofs.Climbing.{climbed_more}
 use Rattle.multiplier.proofs.operations.climb.Goals as goal
 

@@ -1,4 +1,4 @@
-use Rattle.std.proofs.Common.{◌≡◌, ℕ, ◌+◌, ◌-◌, length, sym, ap, ◌∙◌, add-one, arith}
+use Rattle.std.proofs.Common.{◌+◌, ap, ◌∙◌, add-one, arith}
 use Rattle.groups.specs.Groups.{added}
 use Rattle.groups.specs.Tally.{one_addition}
 use Rattle.multiplier.proofs.Filling.{next_cell}

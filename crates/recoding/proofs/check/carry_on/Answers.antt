@@ -1,9 +1,8 @@
-use Rattle.std.proofs.Common.{◌≡◌, ◌^◌, ◌<◌, ◌≤◌, ℤ, pos, ◌+ℤ◌, ◌-ℤ◌, ◌*ℤ◌, sym, ap, ◌∙◌, subst, ap₂, arith, pow_mono, w32, w64, SFits, to_z, of_z, rules}
+use Rattle.std.proofs.Common.{◌^◌, ◌<◌, ◌≤◌, ℤ, pos, ◌+ℤ◌, ◌-ℤ◌, ◌*ℤ◌, ap, ◌∙◌, subst, ap₂, arith, pow_mono, w32, w64, SFits, to_z, of_z, rules}
 use Rattle.std.proofs.lemmas.Int.{ints, to_z-of_z}
 use Rattle.recoding.specs.Codings.{reached}
 use Rattle.recoding.specs.Digits.{decoded}
 use Rattle.recoding.specs.Powers.{Divided}
-use Rattle.inputs.specs.Signs.{signed}
 use Rattle.recoding.proofs.Machine.{About, sums}
 use Rattle.recoding.proofs.Windows.{signed_small}
 use Rattle.recoding.proofs.check.carry_on.Goals as goal

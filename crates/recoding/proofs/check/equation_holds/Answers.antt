@@ -1,11 +1,11 @@
-use Rattle.std.proofs.Common.{◌≡◌, ℕ, ◌+◌, ◌*◌, ◌/◌, ◌%◌, ◌^◌, ◌<◌, eqb, List, [], map, length, get_or, drop, ℤ, pos, Decides, sym, refl, ap, ◌∙◌, subst, ap₂, arith, w32, w64, SFits, to_z, of_z, rules}
+use Rattle.std.proofs.Common.{◌≡◌, ℕ, ◌+◌, ◌*◌, ◌/◌, ◌^◌, ◌<◌, eqb, List, [], map, length, get_or, drop, ℤ, pos, Decides, sym, ap, ◌∙◌, subst, arith, w32, w64, SFits, to_z, of_z, rules}
 use Rattle.std.proofs.lemmas.List.{drop_all}
 use Rattle.std.proofs.lemmas.Int.{ints, to_z-of_z, to_z_pos, of_z-to_z}
 use Rattle.std.proofs.lemmas.Bool.{eqb-true, eq-eqb}
 use Rattle.recoding.specs.declared.digit.Digit.{Digit}
 use Rattle.recoding.specs.Digits.{decoded}
 use Rattle.inputs.specs.Keys.{scalar, half}
-use Rattle.recoding.proofs.Checking.{Equation, Rest, rest_start, start_rest, turn_on, turn_back, turn_fails, rest_end, end_rest}
+use Rattle.recoding.proofs.Checking.{Rest, rest_start, start_rest, turn_on, turn_back, turn_fails, rest_end, end_rest}
 use Rattle.recoding.proofs.Limits.{not_true}
 use Rattle.recoding.proofs.Loop.{top_field}
 use Rattle.recoding.proofs.Machine.{About}

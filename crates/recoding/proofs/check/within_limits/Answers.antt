@@ -1,4 +1,4 @@
-use Rattle.std.proofs.Common.{◌≡◌, List, map, get_or, take, ℤ, pos, refl, subst, arith, w32, SFits, rules}
+use Rattle.std.proofs.Common.{List, map, get_or, ℤ, pos, refl, subst, w32, SFits, rules}
 use Rattle.std.proofs.lemmas.List.{take_all}
 use Rattle.std.proofs.lemmas.Int.{to_z-of_z}
 use Rattle.recoding.specs.Codings.{Within}

@@ -1,8 +1,8 @@
-use Rattle.std.proofs.Common.{◌≡◌, ℕ, ◌^◌, ◌≤◌, ℤ, pos, negsuc, ◌*ℤ◌, ◌≤ℤ◌, Some, None, sym, ap, ◌∙◌, subst, ap₂, arith, w64, SFits, to_z, of_z}
+use Rattle.std.proofs.Common.{◌≡◌, ◌^◌, ◌≤◌, ℤ, pos, negsuc, ◌*ℤ◌, ◌≤ℤ◌, Some, None, sym, ap, ◌∙◌, subst, ap₂, arith, w64, SFits, to_z, of_z}
 use lib.Signed.{quot_z, rem_z}
 use Rattle.std.proofs.lemmas.Int.{ints, to_z-of_z}
 use Rattle.inputs.specs.Quotients.{exact, inexact, quot_quarter, rem_small}
-use Rattle.recoding.specs.Powers.{Divided, Small}
+use Rattle.recoding.specs.Powers.{Divided}
 use Rattle.recoding.proofs.Machine.{About}
 use Rattle.recoding.proofs.power.divided.Goals as goal
 

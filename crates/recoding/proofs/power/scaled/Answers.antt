@@ -1,5 +1,5 @@
-use Rattle.std.proofs.Common.{◌^◌, ℤ, sym, subst}
-use Rattle.recoding.proofs.Machine.{About, Scaled, scaled_is}
+use Rattle.std.proofs.Common.{◌^◌, sym, subst}
+use Rattle.recoding.proofs.Machine.{About, scaled_is}
 use Rattle.recoding.proofs.power.scaled.Goals as goal
 
 pub overflow_mul-result : goal.overflow_mul-result

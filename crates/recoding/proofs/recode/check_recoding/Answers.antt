@@ -1,4 +1,4 @@
-use Rattle.std.proofs.Common.{◌≡◌, Bool, sym, ap, ◌∙◌, arith, rules}
+use Rattle.std.proofs.Common.{sym, ap, ◌∙◌, arith}
 use Rattle.recoding.specs.Codings.{check_refusal}
 use Rattle.inputs.specs.Draws.{draw_refusal}
 use Rattle.inputs.specs.Rules.{Rule}

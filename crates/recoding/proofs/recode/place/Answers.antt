@@ -1,4 +1,4 @@
-use Rattle.std.proofs.Common.{◌≡◌, ◌<◌, List, ◌∷◌, length, ℤ, ap, ◌∙◌, arith, w32, SFits}
+use Rattle.std.proofs.Common.{◌<◌, List, ◌∷◌, length, ℤ, ap, ◌∙◌, arith, w32, SFits}
 use Rattle.std.proofs.lemmas.List.{drop-set}
 use Rattle.std.proofs.lemmas.Int.{to_z-of_z}
 use Rattle.recoding.proofs.recode.place.Goals as goal

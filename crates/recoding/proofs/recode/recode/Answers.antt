@@ -1,13 +1,13 @@
 use borrow.Rule.Slice.PartMut.{Post-is}
-use Rattle.std.proofs.Common.{◌≡◌, ℕ, ◌-◌, ◌/◌, ◌^◌, ◌<◌, ◌≤◌, List, ◌++◌, map, length, take, drop, ℤ, sym, refl, ap, ◌∙◌, subst, ap₂, zero-le, arith, w32, SFits, rules}
+use Rattle.std.proofs.Common.{◌≡◌, ℕ, ◌/◌, ◌≤◌, ◌++◌, map, length, drop, sym, refl, ap, ◌∙◌, subst, ap₂, zero-le, arith, w32, SFits, rules}
 use Rattle.std.proofs.lemmas.List.{length-take}
 use Rattle.std.proofs.lemmas.Int.{to_z-of_z}
 use Rattle.recoding.specs.Digits.{encoded}
-use Rattle.inputs.specs.Keys.{scalar, half}
+use Rattle.inputs.specs.Keys.{scalar}
 use Rattle.inputs.specs.Rules.{Rule, Admitted}
 use Rattle.recoding.specs.Windows.{recoding}
 use Rattle.recoding.proofs.Loop.{coding_in}
-use Rattle.recoding.proofs.Tests.{Lent, lent}
+use Rattle.recoding.proofs.Tests.{lent}
 use Rattle.recoding.proofs.recode.recode.Goals as goal
 
 pub slice_bounds-recode_windows-end : goal.slice_bounds-recode_windows-end

@@ -1,12 +1,11 @@
-use Rattle.std.proofs.Common.{◌≡◌, ℕ, ◌+◌, ◌-◌, ◌*◌, ◌/◌, ◌%◌, ◌^◌, ◌≤◌, List, map, length, get_or, drop, ℤ, pos, neg_ℤ, ◌≤ℤ◌, sym, ap, ◌∙◌, subst, ap₂, arith, w32, w64, SFits, to_z, of_z, rules}
+use Rattle.std.proofs.Common.{◌≡◌, ℕ, ◌+◌, ◌-◌, ◌/◌, ◌^◌, map, get_or, ℤ, pos, sym, ap, ◌∙◌, subst, arith, w32, w64, SFits, to_z, rules}
 use Rattle.std.proofs.lemmas.List.{drop_all}
 use Rattle.std.proofs.lemmas.Int.{ints, to_z-of_z}
 use Rattle.recoding.specs.Digits.{encoded}
-use Rattle.inputs.specs.Keys.{scalar, half}
+use Rattle.inputs.specs.Keys.{scalar}
 use Rattle.inputs.specs.Rules.{Rule, Reached, digit}
-use Rattle.recoding.proofs.Loop.{standing, number_at, start, top_field, left_about, number_is, reached_at, digit_about, above_about, again, finish}
+use Rattle.recoding.proofs.Loop.{standing, start, top_field, left_about, number_is, reached_at, digit_about, above_about, again, finish}
 use Rattle.recoding.proofs.Machine.{About}
-use Rattle.recoding.proofs.recode.recode_windows.Given as given
 use Rattle.recoding.proofs.recode.recode_windows.Goals as goal
 
 pub loop-i-init : goal.loop-i-init

@@ -1,4 +1,4 @@
-use Rattle.std.proofs.Common.{◌≡◌, ◌≤◌, map, length, drop}
+use Rattle.std.proofs.Common.{◌≡◌, ◌≤◌, map, drop}
 use Rattle.recoding.specs.Digits.{encoded}
 use Rattle.inputs.specs.Keys.{half}
 use Rattle.recoding.proofs.Loop.{standing}

@@ -1,4 +1,4 @@
-use Rattle.std.proofs.Common.{◌≡◌, ◌^◌, ◌≤◌, ℤ, ap, ◌∙◌, arith, pow_mono, w32, w64, SFits}
+use Rattle.std.proofs.Common.{◌^◌, ◌≤◌, ℤ, ap, ◌∙◌, arith, pow_mono, w32, w64}
 use Rattle.std.proofs.lemmas.Int.{ints, to_z-of_z}
 use Rattle.inputs.specs.declared.sign.Choice.{Choice}
 use Rattle.recoding.proofs.Machine.{remainder_by, digit_is, left_is}

@@ -1,5 +1,5 @@
-use Rattle.std.proofs.Common.{◌^◌, ℤ, pos, neg_ℤ, ◌≤ℤ◌, sym, ap, ◌∙◌, subst, arith}
-use Rattle.std.proofs.lemmas.Int.{ints, to_z-of_z}
+use Rattle.std.proofs.Common.{◌^◌, ℤ, pos, neg_ℤ, ◌≤ℤ◌, sym, subst, arith}
+use Rattle.std.proofs.lemmas.Int.{ints}
 use Rattle.recoding.proofs.Machine.{Remains, remains}
 use Rattle.recoding.proofs.Windows.{remainder_small}
 use Rattle.recoding.proofs.window.remain.Goals as goal
