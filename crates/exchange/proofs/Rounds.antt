@@ -13,7 +13,7 @@ use Rattle.recoding.proofs.Tests.{both_pass}
 use Rattle.recoding.specs.Codings.{check_refusal}
 use Rattle.runs.specs.declared.task.Ask.{Ask}
 use Rattle.runs.specs.declared.task.Task.{Task}
-use Rattle.runs.specs.Tasks.{Lawful-run, call, cells_left, cells_of, words_left, words_of}
+use Rattle.runs.specs.Tasks.{LawfulRun, call, cells_left, cells_of, words_left, words_of}
 use Rattle.std.proofs.lemmas.List.{length-append, length-drop, length-map, length-replicate}
 
 -- a table that is not refused is long enough
@@ -63,20 +63,20 @@ only [] xs x e one = e
 only (y ∷ rest) xs x e one = absurd (omega (arith, one, ap length e, length-append rest (x ∷ [])))
 
 module _ {S E : Type 0} (group : S → Group E) (tally : S → Tally) (s : S) (o : Task E WindowRule) (s' : S) (o' : Task E WindowRule) where
-  ran_one : Lawful-run rule_of group tally s (o ∷ []) s' (o' ∷ []) → Ran group tally s o s' o'
+  ran_one : LawfulRun rule_of group tally s (o ∷ []) s' (o' ∷ []) → Ran group tally s o s' o'
   ran_one run =
       let g : Group E = group s in
       let ask : o'.ask ≡ o.ask = let h = run.same_asks in cc in
       let words : words_of o' ≡ words_left o = let h = run.words in cc in
       let cells : cells_of o' ≡ cells_left rule_of g o = let h = run.cells in cc in
-      let as-many-words : length (words_of o') ≡ length (words_of o) = ap length words ∙ length-replicate (length (words_of o)) _ in
-      let as-many-cells : length (cells_of o') ≡ length (cells_of o) = ap length cells ∙ cells_kept g (call rule_of o) (cells_of o) refl in
+      let as_many_words : length (words_of o') ≡ length (words_of o) = ap length words ∙ length-replicate (length (words_of o)) _ in
+      let as_many_cells : length (cells_of o') ≡ length (cells_of o) = ap length cells ∙ cells_kept g (call rule_of o) (cells_of o) refl in
       let right : Answered g (call rule_of o') = run.lawful.answers 0 (call rule_of o') (omega arith, refl) in
-      let same : posed (call rule_of o') ≡ posed (call rule_of o) = filled_same None 0 ask as-many-cells as-many-words in
+      let same : posed (call rule_of o') ≡ posed (call rule_of o) = filled_same None 0 ask as_many_cells as_many_words in
       let answer : o'.outcome ≡ Some (answer_of g (posed (call rule_of o))) = right.answer ∙ ap (λ (c : Call E). Some (answer_of g c)) same in
       let after : o'.mark ≡ mark_after g (posed (call rule_of o)) = right.after ∙ ap (λ (c : Call E). mark_after g c) same in
       let done : call rule_of o' ≡ answered g (posed (call rule_of o)) =
-      filled_same o'.outcome o'.mark ask as-many-cells as-many-words
+      filled_same o'.outcome o'.mark ask as_many_cells as_many_words
       ∙ ap (λ (r : Option (Result E Refusal)). filled o.ask (length (cells_of o)) (length (words_of o)) r o'.mark) answer
       ∙ ap (λ (m : ℕ). filled o.ask (length (cells_of o)) (length (words_of o)) (Some (answer_of g (posed (call rule_of o)))) m) after in
       record {
@@ -87,10 +87,10 @@ module _ {S E : Type 0} (group : S → Group E) (tally : S → Tally) (s : S) (o
       }
 
   -- the only task of a list, and the last one of what the run left
-  pub ran : (ts ts' rest : List (Task E WindowRule)) → ts ≡ o ∷ [] → Lawful-run rule_of group tally s ts s' ts' → ts' ≡ rest ++ o' ∷ [] → Ran group tally s o s' o'
+  pub ran : (ts ts' rest : List (Task E WindowRule)) → ts ≡ o ∷ [] → LawfulRun rule_of group tally s ts s' ts' → ts' ≡ rest ++ o' ∷ [] → Ran group tally s o s' o'
   ran ts ts' rest e run e' =
       let alone : ts' ≡ o' ∷ [] = only rest ts' o' e' (sym (length-map ts' (λ x. x.ask)) ∙ ap length run.same_asks ∙ length-map ts (λ x. x.ask) ∙ ap length e) in
-      ran_one (subst (λ (l : List (Task E WindowRule)). Lawful-run rule_of group tally s (o ∷ []) s' l) alone (subst (λ (l : List (Task E WindowRule)). Lawful-run rule_of group tally s l s' ts') e run))
+      ran_one (subst (λ (l : List (Task E WindowRule)). LawfulRun rule_of group tally s (o ∷ []) s' l) alone (subst (λ (l : List (Task E WindowRule)). LawfulRun rule_of group tally s l s' ts') e run))
 
 -- a call of a side, lent so many cells and words
 abbrev lent : {E : Type 0} → Brought → E → (cells words : ℕ) → Call E

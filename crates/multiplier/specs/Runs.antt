@@ -31,7 +31,7 @@ module _ {E : Type 0} (g : Group E) where
     pub second_key : scalar b.key ≡ scalar c.key
 
   -- the law of a list of calls that took the tally from t to t'
-  pub record Lawful-calls (t : Tally) (cs : List (Call E)) (t' : Tally) : Type 0 where
+  pub record LawfulCalls (t : Tally) (cs : List (Call E)) (t' : Tally) : Type 0 where
     -- each call has the answer that it asks for, whatever came before it, and an accepted one is the multiple
     pub answers : (i : ℕ) (c : Call E) → At cs i c → Answered g c
     -- it does not matter which of two keys comes first, whatever the four rules, sizes and draws
@@ -43,10 +43,10 @@ module _ {E : Type 0} (g : Group E) where
 
   -- the calls go on from whatever lawful calls took the device to t, so that the law is one on all that it has multiplied
   abbrev pub GoesOn : Tally → List (Call E) → Tally → Type 0
-  GoesOn t cs t' = (start : Tally) (past : List (Call E)) → Lawful-calls start past t → Lawful-calls start (past ++ cs) t'
+  GoesOn t cs t' = (start : Tally) (past : List (Call E)) → LawfulCalls start past t → LawfulCalls start (past ++ cs) t'
 
 -- two devices, also of different groups, that came to t and u from one tally by lawful calls: where all their accepted calls are alike, their tallies are equal
 abbrev pub AlikeRuns : {E F : Type 0} → Group E → Group F → (t : Tally) → List (Call E) → (t' u : Tally) → List (Call F) → (u' : Tally) → Type 0
 AlikeRuns {E} {F} g h t cs t' u ds u' =
-    (start : Tally) (past : List (Call E)) (other : List (Call F)) → Lawful-calls g start past t → Lawful-calls h start other u →
+    (start : Tally) (past : List (Call E)) (other : List (Call F)) → LawfulCalls g start past t → LawfulCalls h start other u →
     accepted (map entry (past ++ cs)) ≡ accepted (map entry (other ++ ds)) → t' ≡ u'

@@ -5,9 +5,9 @@ use Rattle.inputs.specs.Rules.{Rule}
 use Rattle.groups.specs.Groups.{Group, Lawful}
 use Rattle.groups.specs.declared.tally.Tally.{Tally}
 use Rattle.multiplier.specs.Calls.{Answered, Made, entry}
-use Rattle.multiplier.specs.Runs.{Lawful-calls, accepted}
+use Rattle.multiplier.specs.Runs.{LawfulCalls, accepted}
 use Rattle.multiplier.proofs.Lawfully.{goes_on_by, lawful_append, lawful_none, lawful_one}
-use Rattle.runs.specs.Tasks.{Lawful-run, asks, call, calls, cells_left, cells_of, words_left, words_of}
+use Rattle.runs.specs.Tasks.{LawfulRun, asks, call, calls, cells_left, cells_of, words_left, words_of}
 use Rattle.runs.specs.declared.task.Task.{Task}
 use Rattle.runs.proofs.Refusing.{none_after, none_before, refused_leaves}
 
@@ -27,7 +27,7 @@ pub record Going {S E R : Type 0} (rule : R → Rule) (group : S → Group E) (t
   pub words : map words_of (take i os') ≡ map words_left (take i os)
   pub cells : map cells_of (take i os') ≡ map (cells_left rule (group s)) (take i os)
   pub as_found : accepted (map entry (calls rule (take i os'))) ≡ [] → t ≡ s
-  pub lawful : Lawful-calls (group s) (tally s) (calls rule (take i os')) (tally t)
+  pub lawful : LawfulCalls (group s) (tally s) (calls rule (take i os')) (tally t)
   pub ahead : (k : ℕ) (d : Task E R) → i ≤ k → get_or os' k d ≡ get_or os k d
 
 module _ {S E R : Type 0} (rule : R → Rule) (group : S → Group E) (tally : S → Tally) (s : S) (law : Lawful (group s)) (os : List (Task E R)) where
@@ -50,7 +50,7 @@ module _ {S E R : Type 0} (rule : R → Rule) (group : S → Group E) (tally : S
   going_more t os' i t' z o' lt g made ask words cells =
       let lt' : i < length os' = omega (arith, g.as_many) in
       let here : get_or os' i z ≡ get_or os i z = g.ahead i z (omega arith) in
-      let one : Lawful-calls (group s) (tally t) (call rule o' ∷ []) (tally t') = lawful_one (group s) law (tally t) (call rule o') (tally t') (subst (λ h. Answered h (call rule o')) g.same_group made.answered) made.counted in
+      let one : LawfulCalls (group s) (tally t) (call rule o' ∷ []) (tally t') = lawful_one (group s) law (tally t) (call rule o') (tally t') (subst (λ h. Answered h (call rule o')) g.same_group made.answered) made.counted in
       let list : calls rule (take i os') ++ call rule o' ∷ [] ≡ calls rule (take (i + 1) (set os' i o')) =
       sym (ap (calls rule) (take_more_set os' i o' lt') ∙ map-append (call rule) (take i os') (o' ∷ [])) in
       record {
@@ -63,15 +63,15 @@ module _ {S E R : Type 0} (rule : R → Rule) (group : S → Group E) (tally : S
             let all : accepted (map entry (calls rule (take i os') ++ call rule o' ∷ [])) ≡ [] = ap (λ cs. accepted (map entry cs)) list ∙ none in
             refused_leaves group tally t t' (call rule o') made (none_after (calls rule (take i os')) (call rule o' ∷ []) all)
             ∙ g.as_found (none_before (calls rule (take i os')) (call rule o' ∷ []) all);
-        lawful = subst (λ cs. Lawful-calls (group s) (tally s) cs (tally t')) list (lawful_append (group s) law (tally s) (tally t) (tally t') (calls rule (take i os')) (call rule o' ∷ []) g.lawful one);
+        lawful = subst (λ cs. LawfulCalls (group s) (tally s) cs (tally t')) list (lawful_append (group s) law (tally s) (tally t) (tally t') (calls rule (take i os')) (call rule o' ∷ []) g.lawful one);
         ahead = λ k d h. let ne : k ≢ i = omega arith in get_or-set_other os' i k o' d ne ∙ g.ahead k d (omega arith);
       }
 
-  pub going_all : (t : S) (os' : List (Task E R)) (i : ℕ) → length os ≤ i → Going rule group tally s os t os' i → Lawful-run rule group tally s os t os'
+  pub going_all : (t : S) (os' : List (Task E R)) (i : ℕ) → length os ≤ i → Going rule group tally s os t os' i → LawfulRun rule group tally s os t os'
   going_all t os' i le g =
       let all : take i os ≡ os = take_all i os le in
       let all' : take i os' ≡ os' = take_all i os' (omega (arith, g.as_many)) in
-      let lawful : Lawful-calls (group s) (tally s) (calls rule os') (tally t) = subst (λ l. Lawful-calls (group s) (tally s) (calls rule l) (tally t)) all' g.lawful in
+      let lawful : LawfulCalls (group s) (tally s) (calls rule os') (tally t) = subst (λ l. LawfulCalls (group s) (tally s) (calls rule l) (tally t)) all' g.lawful in
       record {
         same_group = g.same_group;
         same_asks = sym (ap asks all') ∙ g.same_asks ∙ ap asks all;

@@ -6,7 +6,7 @@ use Rattle.recoding.specs.Digits.{zeros}
 use Rattle.groups.specs.Groups.{Group}
 use Rattle.groups.specs.declared.tally.Tally.{Tally}
 use Rattle.multiplier.specs.Calls.{Call, cells_after, entry}
-use Rattle.multiplier.specs.Runs.{GoesOn, Lawful-calls, accepted}
+use Rattle.multiplier.specs.Runs.{GoesOn, LawfulCalls, accepted}
 use Rattle.runs.specs.declared.task.Ask.{Ask}
 use Rattle.runs.specs.declared.task.Task.{Task}
 
@@ -53,7 +53,7 @@ module _ {E R : Type 0} where
   cells_left rule g o = cells_after g (call rule o) (cells_of o)
 
   -- a run takes the device s and the tasks to s' and tasks'
-  pub record Lawful-run {S : Type 0} (rule : R → Rule) (group : S → Group E) (tally : S → Tally) (s : S) (tasks : List (Task E R)) (s' : S) (tasks' : List (Task E R)) : Type 0 where
+  pub record LawfulRun {S : Type 0} (rule : R → Rule) (group : S → Group E) (tally : S → Tally) (s : S) (tasks : List (Task E R)) (s' : S) (tasks' : List (Task E R)) : Type 0 where
     -- the group and what is asked are the same
     pub same_group : group s' ≡ group s
     pub same_asks : asks tasks' ≡ asks tasks
@@ -63,5 +63,5 @@ module _ {E R : Type 0} where
     -- where all tasks are refused, the device is the very same
     pub as_found : accepted (map entry (calls rule tasks')) ≡ [] → s' ≡ s
     -- the calls, with the answers that stand in the tasks now, are lawful, also after any others
-    pub lawful : Lawful-calls (group s) (tally s) (calls rule tasks') (tally s')
+    pub lawful : LawfulCalls (group s) (tally s) (calls rule tasks') (tally s')
     pub goes_on : GoesOn (group s) (tally s) (calls rule tasks') (tally s')

@@ -2,7 +2,7 @@
 ghost use Rattle.std.specs.Prelude.{◌≡◌};
 ghost use Rattle.multiplier.specs.Calls.{Made};
 ghost use Rattle.multiplier.specs.Runs.{AlikeRuns};
-ghost use Rattle.runs.specs.Tasks.{Lawful-run, call, calls, cells_left, cells_of, told, words_left, words_of};
+ghost use Rattle.runs.specs.Tasks.{LawfulRun, call, calls, cells_left, cells_of, told, words_left, words_of};
 
 use crate::task::Task;
 use common::refusal::Refusal;
@@ -15,7 +15,7 @@ use multiplier::multiply::multiply;
 /// before it. A refused one leaves the device and its own cells as they were; after any, its words
 /// are zeros.
 pub fn run<D: GroupDevice, R: SignRule>(device: &mut D, tasks: &mut [Task<D::Element, R>])
-    ensures { Lawful-run R.SignRule.rule D.GroupDevice.group D.GroupDevice.tally device.old tasks.old device.new tasks.new }
+    ensures { LawfulRun R.SignRule.rule D.GroupDevice.group D.GroupDevice.tally device.old tasks.old device.new tasks.new }
 {
     for task in tasks.iter_mut() {
         run_one(device, task);
@@ -29,8 +29,8 @@ pub fn run_both<D1: GroupDevice, R1: SignRule, D2: GroupDevice, R2: SignRule>(
     second: &mut D2,
     second_tasks: &mut [Task<D2::Element, R2>],
 )
-    ensures first { Lawful-run R1.SignRule.rule D1.GroupDevice.group D1.GroupDevice.tally first.old first_tasks.old first.new first_tasks.new }
-    ensures second { Lawful-run R2.SignRule.rule D2.GroupDevice.group D2.GroupDevice.tally second.old second_tasks.old second.new second_tasks.new }
+    ensures first { LawfulRun R1.SignRule.rule D1.GroupDevice.group D1.GroupDevice.tally first.old first_tasks.old first.new first_tasks.new }
+    ensures second { LawfulRun R2.SignRule.rule D2.GroupDevice.group D2.GroupDevice.tally second.old second_tasks.old second.new second_tasks.new }
     ensures alike { AlikeRuns (D1.GroupDevice.group first.old) (D2.GroupDevice.group second.old) (D1.GroupDevice.tally first.old) (calls R1.SignRule.rule first_tasks.new) (D1.GroupDevice.tally first.new) (D2.GroupDevice.tally second.old) (calls R2.SignRule.rule second_tasks.new) (D2.GroupDevice.tally second.new) }
 {
     run_each(first, first_tasks, second, second_tasks);
@@ -43,8 +43,8 @@ fn run_each<D1: GroupDevice, R1: SignRule, D2: GroupDevice, R2: SignRule>(
     second: &mut D2,
     second_tasks: &mut [Task<D2::Element, R2>],
 )
-    ensures first { Lawful-run R1.SignRule.rule D1.GroupDevice.group D1.GroupDevice.tally first.old first_tasks.old first.new first_tasks.new }
-    ensures second { Lawful-run R2.SignRule.rule D2.GroupDevice.group D2.GroupDevice.tally second.old second_tasks.old second.new second_tasks.new }
+    ensures first { LawfulRun R1.SignRule.rule D1.GroupDevice.group D1.GroupDevice.tally first.old first_tasks.old first.new first_tasks.new }
+    ensures second { LawfulRun R2.SignRule.rule D2.GroupDevice.group D2.GroupDevice.tally second.old second_tasks.old second.new second_tasks.new }
 {
     run(first, first_tasks);
     run(second, second_tasks);

@@ -18,12 +18,12 @@ loop-i-preserved c =
     let k : ℕ = c.args.width in
     let x : ℕ = c.loop-i.rest in
     let p = c.power.ensures.value in
-    let turn-fits : SFits w32 c.turn.result = search rules in
-    let lessen-fits : SFits w32 c.lessen.result = search rules in
+    let turn_fits : SFits w32 c.turn.result = search rules in
+    let lessen_fits : SFits w32 c.lessen.result = search rules in
     let w : ℕ → ℕ = λ (m : ℕ). x % m + c.loop-i.gained in (
       c.gain-gained.ensures.small,
       coded_more (turned_by C) k (length c.args.windows.now) _ c.loop-i.i x c.loop-i.gained _ c.gain-gained.result c.loop-i.windows _ c.loop-i-test.true c.loop-i.auto.windows
-          (to_z-of_z w32 c.turn.result turn-fits ∙ c.turn.ensures ∙ ap (turned_by C) (to_z-of_z w32 c.lessen.result lessen-fits ∙ c.lessen.ensures.value ∙ ap (λ (m : ℕ). lessened k (w m)) p))
+          (to_z-of_z w32 c.turn.result turn_fits ∙ c.turn.ensures ∙ ap (turned_by C) (to_z-of_z w32 c.lessen.result lessen_fits ∙ c.lessen.ensures.value ∙ ap (λ (m : ℕ). lessened k (w m)) p))
           (ap (λ (m : ℕ). x / m) c.power-rest.ensures.value)
           (c.gain-gained.ensures.value ∙ ap (λ (m : ℕ). gain k (w m)) p)
           c.loop-i.invariant.1,
