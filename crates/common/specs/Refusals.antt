@@ -1,5 +1,5 @@
 -- The number, the layer and the place of each refusal, said once for every contract that refuses.
-use Rattle.std.specs.Prelude.{ℕ}
+use Rattle.std.specs.Prelude.{ℕ, List, ◌++◌, codes, decimal}
 use Rattle.common.specs.declared.refusal.Refusal.{Refusal}
 use Rattle.common.specs.declared.refusal.Refusal.TheVariants.{WindowWidth, DrawWidth, WindowCount, KeyLength, KeyTooLarge, TooFewDigits, TableTooShort, NotAMember, DrawsExhausted, UnfitDraw, Modulus, UnknownField, RecordCutShort, FieldOutOfRange, FieldNeverGiven, BufferTooShort, InputTooLong}
 
@@ -62,3 +62,7 @@ place_of (FieldOutOfRange offset) = offset
 place_of (FieldNeverGiven offset) = offset
 place_of (BufferTooShort needed) = needed
 place_of (InputTooLong limit) = limit
+
+-- the text of a refusal: "no", the number, the layer and the place
+abbrev pub refusal_text : Refusal → List ℕ
+refusal_text e = codes "no " ++ decimal (number e) ++ codes " " ++ decimal (layer e) ++ codes " " ++ decimal (place_of e)

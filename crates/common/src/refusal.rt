@@ -1,6 +1,8 @@
 //! Why a call can't be taken: a number, the layer that refused, and a place.
-ghost use Rattle.std.specs.Prelude.{◌≡◌};
-ghost use Rattle.common.specs.Refusals.{number, layer, place_of};
+ghost use Rattle.std.specs.Prelude.{◌≡◌, Some};
+ghost use Rattle.common.specs.Refusals.{number, layer, place_of, refusal_text};
+
+use std::fmt;
 
 /// A refusal. Each has a fixed number and layer, and tells a place: a count, an offset or a bit.
 #[derive(Clone, Copy, PartialEq, Eq, Debug)]
@@ -72,23 +74,17 @@ impl Refusal {
         ensures { result ≡ layer self }
     {
         match self {
-            Refusal::UnknownField { .. } => 1,
-            Refusal::RecordCutShort { .. } => 1,
-            Refusal::FieldOutOfRange { .. } => 1,
-            Refusal::FieldNeverGiven { .. } => 1,
-            Refusal::BufferTooShort { .. } => 1,
-            Refusal::InputTooLong { .. } => 1,
-            Refusal::WindowWidth => 2,
-            Refusal::DrawWidth => 2,
-            Refusal::WindowCount => 2,
-            Refusal::KeyLength { .. } => 3,
-            Refusal::KeyTooLarge { .. } => 3,
-            Refusal::TooFewDigits { .. } => 4,
-            Refusal::TableTooShort { .. } => 4,
-            Refusal::NotAMember => 5,
-            Refusal::Modulus => 5,
-            Refusal::DrawsExhausted { .. } => 6,
-            Refusal::UnfitDraw => 6,
+            Refusal::UnknownField { .. }
+            | Refusal::RecordCutShort { .. }
+            | Refusal::FieldOutOfRange { .. }
+            | Refusal::FieldNeverGiven { .. }
+            | Refusal::BufferTooShort { .. }
+            | Refusal::InputTooLong { .. } => 1,
+            Refusal::WindowWidth | Refusal::DrawWidth | Refusal::WindowCount => 2,
+            Refusal::KeyLength { .. } | Refusal::KeyTooLarge { .. } => 3,
+            Refusal::TooFewDigits { .. } | Refusal::TableTooShort { .. } => 4,
+            Refusal::NotAMember | Refusal::Modulus => 5,
+            Refusal::DrawsExhausted { .. } | Refusal::UnfitDraw => 6,
         }
     }
 
@@ -97,23 +93,31 @@ impl Refusal {
         ensures { result ≡ place_of self }
     {
         match self {
-            Refusal::WindowWidth => 0,
-            Refusal::DrawWidth => 0,
-            Refusal::WindowCount => 0,
-            Refusal::KeyLength { words } => words,
+            Refusal::WindowWidth
+            | Refusal::DrawWidth
+            | Refusal::WindowCount
+            | Refusal::NotAMember
+            | Refusal::UnfitDraw
+            | Refusal::Modulus => 0,
+            Refusal::KeyLength { words } | Refusal::TooFewDigits { words } => words,
             Refusal::KeyTooLarge { bit } => bit,
-            Refusal::TooFewDigits { words } => words,
             Refusal::TableTooShort { cells } => cells,
-            Refusal::NotAMember => 0,
             Refusal::DrawsExhausted { mark } => mark,
-            Refusal::UnfitDraw => 0,
-            Refusal::Modulus => 0,
-            Refusal::UnknownField { offset } => offset,
+            Refusal::UnknownField { offset }
+            | Refusal::FieldOutOfRange { offset }
+            | Refusal::FieldNeverGiven { offset } => offset,
             Refusal::RecordCutShort { length } => length,
-            Refusal::FieldOutOfRange { offset } => offset,
-            Refusal::FieldNeverGiven { offset } => offset,
             Refusal::BufferTooShort { needed } => needed,
             Refusal::InputTooLong { limit } => limit,
         }
+    }
+}
+
+/// Writes `no`, the refusal's number, its layer and its place.
+impl fmt::Display for Refusal {
+    ghost output = { λ e. Some (refusal_text e) };
+
+    fn fmt<W: fmt::Write>(&self, f: &mut fmt::Formatter<W>) -> fmt::Result {
+        write!(f, "no {} {} {}", self.number(), self.layer(), self.place())
     }
 }

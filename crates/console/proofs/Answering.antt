@@ -1,7 +1,6 @@
 -- The answer to a request, from what the recoding and the check said.
-use Rattle.std.proofs.Common.{◌≡◌, ℕ, Bool, List, [], ◌++◌, map, length, drop, ℤ, pos, Some, None, vec_items, Decides, Option, sym, ap, ◌∙◌, subst, ap₂, arith}
+use Rattle.std.proofs.Common.{◌≡◌, ℕ, Bool, List, [], ◌++◌, map, length, drop, ℤ, pos, Some, None, Ok, Err, vec_items, Decides, Option, sym, ap, ◌∙◌, subst, ap₂, arith}
 use Rattle.common.specs.declared.refusal.Refusal.{Refusal}
-use Rattle.console.specs.declared.answer.Answer.TheVariants.{Recoded, Refused}
 use Rattle.console.specs.declared.answer.Recoding.{Recoding}
 use Rattle.console.specs.Answers.{Codes, Unless, Drawn}
 use Rattle.console.specs.Requests.{Asked}
@@ -37,11 +36,11 @@ module _ (z : Sizes) (q : Asked) (d : Draw) where
     none = ap (drop z.m) room ∙ drop_all z.m (zeros z.m) (omega (arith, length-replicate z.m (pos 0)))
 
     pub recoded : (c : Recoding) (s : ℕ) (x : ℤ) (v : Bool) → s ≡ r.draw.value → x ≡ r.correction → Decides v (Coding R z (half key') s x (digits_in z words')) →
-        c.draw ≡ s → c.correction ≡ x → vec_items c.words ≡ after → c.verdict ≡ v → Drawn z q d.value (Recoded c)
+        c.draw ≡ s → c.correction ≡ x → vec_items c.words ≡ after → c.verdict ≡ v → Drawn z q d.value (Ok c)
     recoded c s x v es ex dv fd fc fw fv =
         let drawn : s ≡ d.value = es ∙ ap (λ (y : Draw). y.value) a.draw in
         let keyed = ap (λ (k : List ℕ). recoding R z d.value (half k)) ek in
-        subst (λ (o : Option Refusal). Unless o (Codes z q d.value) (Recoded c)) (sym taken) (record {
+        subst (λ (o : Option Refusal). Unless o (Codes z q d.value) (Ok c)) (sym taken) (record {
           draw = fd ∙ drawn;
           correction = fc ∙ ex ∙ a.correction ∙ ap (λ (y : State). y.left) keyed;
           words = fw ∙ a.words ∙ ap₂ (λ (y : State) (l : List ℤ). map encoded y.digits ++ l) keyed none ∙ append-nil _;
@@ -50,13 +49,13 @@ module _ (z : Sizes) (q : Asked) (d : Draw) where
 
   -- a refused one: with words enough and a fit draw, only the key can be refused
   pub refused : (e : Refusal) (key : List ℕ) (before : List ℤ) → key ≡ q.key → before ≡ zeros z.m → draw_refusal R z d ≡ None → recode_refusal R z key (length before) d ≡ Some e →
-      Drawn z q d.value (Refused e)
+      Drawn z q d.value (Err e)
   refused e key before ek eb fit h =
       by (key_refusal z q.key) (ap (λ (k : List ℕ). or_else (or_else (key_refusal z k) None) None) (sym ek) ∙ ap₂ (λ (x y : Option Refusal). or_else (or_else (key_refusal z key) x) y) (sym enough) (sym fit) ∙ h)
     where
       enough : digits_refusal z (length before) ≡ None
       enough = words_taken z (length before) (omega (arith, ap length eb, length-replicate z.m (pos 0)))
 
-      by : (k : Option Refusal) → or_else (or_else k None) None ≡ Some e → Unless k (Codes z q d.value) (Refused e)
+      by : (k : Option Refusal) → or_else (or_else k None) None ≡ Some e → Unless k (Codes z q d.value) (Err e)
       by None p = absurd (let x : ◌≡◌ {A = ℕ} 0 1 = cc in omega arith)
       by (Some f) p = cc

@@ -1,9 +1,7 @@
 -- How a request is answered: by the first refusal of its tests, or by the recoding, which the check accepts.
-use Rattle.std.specs.Prelude.{◌≡◌, ℕ, true, map, Some, None, vec_items, Option}
+use Rattle.std.specs.Prelude.{◌≡◌, ℕ, true, map, Some, None, Ok, Err, vec_items, Option, Result}
 use Rattle.common.specs.declared.refusal.Refusal.{Refusal}
 use Rattle.common.specs.declared.refusal.Refusal.TheVariants.{DrawsExhausted}
-use Rattle.console.specs.declared.answer.Answer.{Answer}
-use Rattle.console.specs.declared.answer.Answer.TheVariants.{Recoded, Refused}
 use Rattle.console.specs.declared.answer.Recoding.{Recoding}
 use Rattle.console.specs.Requests.{Asked}
 use Rattle.inputs.specs.declared.sizes.Sizes.{Sizes}
@@ -14,10 +12,14 @@ use Rattle.inputs.specs.Sizes.{sizes_refusal}
 use Rattle.recoding.specs.Digits.{encoded}
 use Rattle.recoding.specs.Windows.{recoding}
 
+-- an answer: a recoding, or why there is none
+abbrev pub Answer : Type 0
+Answer = Result Recoding Refusal
+
 -- the answer is this refusal
 abbrev pub Says : Refusal → Answer → Type 0
-Says e (Refused f) = f ≡ e
-Says e (Recoded c) = ⊥
+Says e (Err f) = f ≡ e
+Says e (Ok c) = ⊥
 
 -- the answer is the recoding by the draw s, and the check said yes
 pub record Coded (z : Sizes) (q : Asked) (s : ℕ) (c : Recoding) : Type 0 where
@@ -28,8 +30,8 @@ pub record Coded (z : Sizes) (q : Asked) (s : ℕ) (c : Recoding) : Type 0 where
 
 -- the answer is such a recoding
 abbrev pub Codes : Sizes → Asked → ℕ → Answer → Type 0
-Codes z q s (Recoded c) = Coded z q s c
-Codes z q s (Refused e) = ⊥
+Codes z q s (Ok c) = Coded z q s c
+Codes z q s (Err e) = ⊥
 
 -- a refusal, or what else is answered
 abbrev pub Unless : Option Refusal → (Answer → Type 0) → Answer → Type 0

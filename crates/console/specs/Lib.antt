@@ -1,4 +1,3 @@
 pub mod Requests
 pub mod Answers
 pub mod Lines
-pub mod Summaries

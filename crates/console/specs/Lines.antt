@@ -1,24 +1,17 @@
 -- The text of an answer, byte by byte, and which text answers a line.
-use Rattle.std.specs.Prelude.{◌≡◌, ℕ, ◌-◌, Bool, true, false, cond, List, [], ◌∷◌, ◌++◌, length, take, ℤ, Some, None, vec_items, codes, decimal, Option, ◌==◌, slice_index}
-use Rattle.common.specs.declared.refusal.Refusal.{Refusal}
-use Rattle.common.specs.Refusals.{number, layer, place_of}
-use Rattle.console.specs.declared.answer.Answer.{Answer}
-use Rattle.console.specs.declared.answer.Answer.TheVariants.{Recoded, Refused}
-use Rattle.console.specs.declared.answer.Recoding.{Recoding}
-use Rattle.console.specs.declared.line.Kind.{Kind}
-use Rattle.console.specs.declared.line.Kind.TheVariants as kinds
-use Rattle.console.specs.Answers.{Answered}
-use Rattle.console.specs.Requests.{Asked, requested}
+use Rattle.std.specs.Prelude.{◌≡◌, ℕ, Bool, true, false, List, ◌++◌, ℤ, Some, None, Ok, Err, vec_items, codes, decimal, Option, flat_map}
 use Rattle.std.specs.Fmt.{signed_decimal}
-
--- "no", the number, the layer and the place
-abbrev pub refusal_text : Refusal → List ℕ
-refusal_text e = codes "no " ++ decimal (number e) ++ codes " " ++ decimal (layer e) ++ codes " " ++ decimal (place_of e)
+use Rattle.common.specs.Refusals.{refusal_text}
+use Rattle.console.specs.declared.answer.Recoding.{Recoding}
+use Rattle.console.specs.Answers.{Answer, Answered}
+use Rattle.console.specs.Requests.{Asked, requested}
+use Rattle.lines.specs.declared.summary.Kind.{Kind}
+use Rattle.lines.specs.declared.summary.Kind.TheVariants as kinds
+use Rattle.lines.specs.Lines.{trimmed}
 
 -- each word behind a space
 abbrev pub spaced : List ℤ → List ℕ
-spaced [] = []
-spaced (w ∷ ws) = codes " " ++ signed_decimal w ++ spaced ws
+spaced ws = flat_map (λ w. codes " " ++ signed_decimal w) ws
 
 -- the check's verdict
 abbrev pub verdict_text : Bool → List ℕ
@@ -31,22 +24,13 @@ recoding_text c = codes "ok " ++ decimal c.draw ++ codes " " ++ signed_decimal c
 
 -- the text of an answer
 abbrev pub answer_text : Answer → List ℕ
-answer_text (Recoded c) = recoding_text c
-answer_text (Refused e) = refusal_text e
+answer_text (Ok c) = recoding_text c
+answer_text (Err e) = refusal_text e
 
 -- how an answer is counted
 abbrev pub kind_of : Answer → Kind
-kind_of (Recoded c) = kinds.Recoded
-kind_of (Refused e) = kinds.Refused
-
--- what comes behind a line, nothing where it is the last one
-abbrev pub or_none : Option (List ℕ) → List ℕ
-or_none None = []
-or_none (Some rest) = rest
-
--- a line without one carriage return at its end
-abbrev pub trimmed : List ℕ → List ℕ
-trimmed line = cond (slice_index line (length line - 1) == 13) (take (length line - 1) line) line
+kind_of (Ok c) = kinds.Done
+kind_of (Err e) = kinds.Refused
 
 -- a line that can't be read is said to be so; one that can is answered by its answer's text
 abbrev pub Said : Option Asked → Kind → List ℕ → List ℕ → Type 0

@@ -1,13 +1,12 @@
 -- What a line asks for: six fields with single spaces between them.
-use Rattle.std.specs.Prelude.{ℕ, cond, List, [], ◌∷◌, Some, None, vec_items, Option, ◌==◌}
+use Rattle.std.specs.Prelude.{ℕ, List, Some, vec_items, Option}
 use Rattle.std.specs.Borrow.{Bor}
 use Rattle.console.specs.declared.request.KeyDraws.{KeyDraws}
 use Rattle.console.specs.declared.request.Request.{Request}
 use Rattle.inputs.specs.declared.window_rule.WindowRule.{WindowRule}
 use Rattle.inputs.specs.Rules.{numbered}
-use Rattle.text.specs.Decimal.{decimal_of}
+use Rattle.lines.specs.Fields.{number_then, key_text, draws_text}
 use Rattle.text.specs.Fields.{before, behind}
-use Rattle.text.specs.Hex.{bytes_of, words_of}
 use Rattle.text.specs.Numerals.{and_then}
 
 -- a rule, sizes, a key and random bytes, as they stand in a line
@@ -22,30 +21,6 @@ pub record Asked : Type 0 where
 -- what a request holds, as plain values
 abbrev pub view : Request → Asked
 view r = record { rule = r.rule; k = r.window_width; b = r.draw_width; m = r.windows; key = vec_items r.key; draws = vec_items r.draws }
-
--- a decimal number and a space, and what comes behind it
-pub record NumberThen : Type 0 where
-  pub number : ℕ
-  pub rest : List ℕ
-
--- such a number at the beginning of a text, if there is one
-abbrev pub number_then : List ℕ → Option NumberThen
-number_then text = and_then (behind 32 text) (λ rest. and_then (decimal_of (before 32 text)) (λ n. Some (record { number = n; rest = rest })))
-
--- a number and a rest that a function returned
-abbrev pub paired : ℕ × Bor (List ℕ) → NumberThen
-paired p = record { number = p.0; rest = p.1.now }
-
--- a key is one or more hexadecimal digits
-abbrev pub key_text : List ℕ → Option (List ℕ)
-key_text [] = None
-key_text (c ∷ cs) = words_of (c ∷ cs)
-
--- random bytes are one or more pairs of hexadecimal digits, or a hyphen for none
-abbrev pub draws_text : List ℕ → Option (List ℕ)
-draws_text [] = None
-draws_text (c ∷ []) = cond (c == 45) (Some []) (bytes_of (c ∷ []))
-draws_text (c ∷ d ∷ cs) = bytes_of (c ∷ d ∷ cs)
 
 -- the rule of the number that a text begins with
 pub record RuleThen : Type 0 where

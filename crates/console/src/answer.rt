@@ -1,6 +1,7 @@
 //! How a request is answered: drawn, recoded and checked, or refused.
-ghost use Rattle.std.specs.Prelude.{◌≡◌, IfOk, None};
+ghost use Rattle.std.specs.Prelude.{◌≡◌, IfOk, Some, None};
 ghost use Rattle.console.specs.Answers.{Answered, Sized, Drawn};
+ghost use Rattle.console.specs.Lines.{recoding_text};
 ghost use Rattle.console.specs.Requests.{view};
 ghost use Rattle.inputs.specs.Draws.{draw_refusal};
 ghost use Rattle.inputs.specs.Rules.{rule_of};
@@ -14,6 +15,7 @@ use inputs::sizes::Sizes;
 use recoding::check::check_coding;
 use recoding::recode::recode;
 use std::alloc::{AllocError, Global};
+use std::fmt;
 
 /// A recoding with the check's verdict on it.
 #[derive(Drop)]
@@ -24,75 +26,77 @@ pub struct Recoding {
     pub verdict: bool,
 }
 
-/// The answer to a request.
-#[derive(Drop)]
-pub enum Answer {
-    Recoded(Recoding),
-    Refused(Refusal),
+/// Writes `ok`, the draw, the correction, the words from word 0 up, and the verdict.
+impl fmt::Display for Recoding {
+    ghost output = { λ c. Some (recoding_text c) };
+
+    fn fmt<W: fmt::Write>(&self, f: &mut fmt::Formatter<W>) -> fmt::Result {
+        write!(f, "ok {} {}", self.draw, self.correction)?;
+        for word in &self.words {
+            write!(f, " {word}")?;
+        }
+        f.write_str(if self.verdict { " yes" } else { " no" })
+    }
 }
 
 impl Request {
-    /// Tests the sizes (1, 2, 3), draws (9), recodes (4, 5) and checks what came out. Answers
-    /// `Err` only where memory fails.
-    pub fn answer(&self, heap: Global) -> Result<Answer, AllocError>
+    /// Tests the sizes (1, 2, 3), draws (9), recodes (4, 5) and checks what came out. The outer
+    /// `Err` comes only where memory fails.
+    pub fn answer(&self, heap: Global) -> Result<Result<Recoding, Refusal>, AllocError>
         ensures { IfOk result (Answered (view self.now)) }
     {
         match Sizes::new(self.window_width, self.draw_width, self.windows) {
-            Ok(sizes) => answer_sized(heap, self, sizes),
-            Err(refusal) => Ok(Answer::Refused(refusal)),
+            Ok(sizes) => {
+                let words = vec![in heap; 0i32; sizes.windows() as usize]?;
+                Ok(answer_sized(self, sizes, words))
+            }
+            Err(refusal) => Ok(Err(refusal)),
         }
     }
 }
 
 // The answer once the sizes are known.
-fn answer_sized(heap: Global, request: &Request, sizes: Sizes) -> Result<Answer, AllocError>
-    ensures { IfOk result (Sized sizes (view request.now)) }
+fn answer_sized(request: &Request, sizes: Sizes, words: Vec<i32>) -> Result<Recoding, Refusal>
+    requires { words.items ≡ zeros sizes.m }
+    ensures { Sized sizes (view request.now) result }
 {
-    let words = vec![in heap; 0i32; sizes.windows() as usize]?;
     let mut stream = Stream::new(request.draws.as_slice());
-    match Draw::from_stream(&request.rule, sizes, &mut stream) {
-        Ok(draw) => Ok(answer_drawn(request, sizes, draw, words)),
-        Err(refusal) => Ok(Answer::Refused(refusal)),
-    }
+    let draw = Draw::from_stream(&request.rule, sizes, &mut stream)?;
+    answer_drawn(request, sizes, draw, words)
 }
 
 // The answer once the draw is taken.
-fn answer_drawn(request: &Request, sizes: Sizes, draw: Draw, words: Vec<i32>) -> Answer
+fn answer_drawn(
+    request: &Request,
+    sizes: Sizes,
+    draw: Draw,
+    mut words: Vec<i32>,
+) -> Result<Recoding, Refusal>
     requires room { words.items ≡ zeros sizes.m }
     requires fit { draw_refusal (rule_of request.now.rule) sizes draw ≡ None }
     ensures { Drawn sizes (view request.now) draw.value result }
 {
-    let mut words = words;
-    match recode(
+    let key = request.key.as_slice();
+    let coded = recode(&request.rule, sizes, key, draw, words.as_mut_slice()).map_err(|(
+        refusal,
+        draw,
+    )| {
+        draw.end();
+        refusal
+    })?;
+    let (draw, correction) = coded.end();
+    let verdict = check_coding(
         &request.rule,
         sizes,
-        request.key.as_slice(),
+        key,
         draw,
-        words.as_mut_slice(),
-    ) {
-        Ok(coded) => {
-            let (s, correction) = coded.end();
-            match check_coding(
-                &request.rule,
-                sizes,
-                request.key.as_slice(),
-                s,
-                correction,
-                words.as_slice(),
-            ) {
-                Ok(verdict) => Answer::Recoded(Recoding {
-                    draw: s,
-                    correction,
-                    words,
-                    verdict,
-                }),
-                Err(refusal) => Answer::Refused(refusal),
-            }
-        }
-        Err(back) => {
-            let (refusal, draw) = back;
-            draw.end();
-            Answer::Refused(refusal)
-        }
-    }
+        correction,
+        words.as_slice(),
+    )?;
+    Ok(Recoding {
+        draw,
+        correction,
+        words,
+        verdict,
+    })
 }

@@ -1,7 +1,6 @@
-//! The lines that the programs read, and how they are answered.
+//! The lines that `recode` reads, and how they are answered.
 #![tactic(auto)]
 
 pub mod answer;
 pub mod line;
 pub mod request;
-pub mod summary;

@@ -1,13 +1,12 @@
 //! What a line asks for: a rule, sizes, a key and random bytes.
-ghost use Rattle.std.specs.Prelude.{◌≡◌, IfOk, vec_items};
-ghost use Rattle.console.specs.Requests.{view, requested, number_then, paired, rule_then, ruled, key_draws, keyed, key_text, draws_text};
+ghost use Rattle.std.specs.Prelude.{◌≡◌, IfOk};
+ghost use Rattle.console.specs.Requests.{view, requested, rule_then, ruled, key_draws, keyed};
 ghost use Rattle.std.specs.Option.{option_map};
 
 use inputs::window_rule::WindowRule;
+use lines::field::{draws_text, key_text, number_then};
 use std::alloc::{AllocError, Global};
-use text::decimal::decimal;
 use text::fields::cut;
-use text::hex::{hex_bytes, hex_words};
 
 /// A recoding that a line asks for. The numbers are as they stand there, in the limits or not.
 #[derive(Drop)]
@@ -28,6 +27,7 @@ impl Request {
     pub fn read(heap: Global, line: &[u8]) -> Result<Option<Request>, AllocError>
         ensures { IfOk result (λ o. option_map view o ≡ requested line.now) }
     {
+        // Not `?`, which passes up the error of memory alone.
         let Some((rule, rest)) = rule_then(line) else {
             return Ok(None);
         };
@@ -58,13 +58,8 @@ impl Request {
 fn rule_then<'a>(text: &'a [u8]) -> Option<(WindowRule, &'a [u8])>
     ensures { option_map ruled result ≡ rule_then text.now }
 {
-    let Some((number, rest)) = number_then(text) else {
-        return None;
-    };
-    let Some(rule) = WindowRule::from_number(number) else {
-        return None;
-    };
-    Some((rule, rest))
+    let (number, rest) = number_then(text)?;
+    Some((WindowRule::try_from(number).ok()?, rest))
 }
 
 // The last two fields.
@@ -78,8 +73,8 @@ struct KeyDraws {
 fn key_draws(heap: Global, text: &[u8]) -> Result<Option<KeyDraws>, AllocError>
     ensures { IfOk result (λ o. option_map keyed o ≡ key_draws text.now) }
 {
-    let (front, rest) = cut(text, b' ');
-    let Some(rest) = rest else {
+    // Not `?`, which passes up the error of memory alone.
+    let (front, Some(rest)) = cut(text, b' ') else {
         return Ok(None);
     };
     let Some(key) = key_text(heap, front)? else {
@@ -89,39 +84,4 @@ fn key_draws(heap: Global, text: &[u8]) -> Result<Option<KeyDraws>, AllocError>
         return Ok(None);
     };
     Ok(Some(KeyDraws { key, draws }))
-}
-
-// A decimal number, a space, and what comes behind it.
-fn number_then<'a>(text: &'a [u8]) -> Option<(u32, &'a [u8])>
-    ensures { option_map paired result ≡ number_then text.now }
-{
-    let (front, rest) = cut(text, b' ');
-    let Some(rest) = rest else {
-        return None;
-    };
-    let Some(number) = decimal(front) else {
-        return None;
-    };
-    Some((number, rest))
-}
-
-// The words of a key: one or more hexadecimal digits.
-fn key_text(heap: Global, text: &[u8]) -> Result<Option<Vec<u32>>, AllocError>
-    ensures { IfOk result (λ o. option_map vec_items o ≡ key_text text.now) }
-{
-    if text.is_empty() {
-        return Ok(None);
-    }
-    hex_words(heap, text)
-}
-
-// Random bytes: pairs of hexadecimal digits, or `-` for none.
-fn draws_text(heap: Global, text: &[u8]) -> Result<Option<Vec<u8>>, AllocError>
-    ensures { IfOk result (λ o. option_map vec_items o ≡ draws_text text.now) }
-{
-    match text {
-        [] => Ok(None),
-        [b'-'] => Ok(Some(Vec::new(heap))),
-        _ => hex_bytes(heap, text),
-    }
 }

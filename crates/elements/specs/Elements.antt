@@ -1,5 +1,5 @@
 -- Elements by two numbers. Assumes nothing.
-use Rattle.std.specs.Prelude.{true, cond, ◌&&◌, List, [], ◌∷◌, ◌≡◌, ℕ, eqb}
+use Rattle.std.specs.Prelude.{true, cond, ◌&&◌, List, [], ◌∷◌, ◌++◌, ◌≡◌, ℕ, codes, decimal, eqb}
 use Rattle.elements.specs.declared.element.Pair.{Pair}
 use Rattle.groups.specs.Groups.{Group}
 use Rattle.groups.specs.declared.clock.ClockPoint.{ClockPoint}
@@ -9,6 +9,10 @@ use Rattle.groups.specs.declared.curve.CurvePoint.TheVariants.{Infinity, Affine}
 -- two numbers
 abbrev pub pair_of : (x y : ℕ) → Pair
 pair_of x y = record { x = x; y = y }
+
+-- both numbers in decimal, with a space between them
+abbrev pub pair_text : Pair → List ℕ
+pair_text at = decimal at.x ++ codes " " ++ decimal at.y
 
 -- a code as two numbers, with 0 for what it does not have; the codes of the three groups have one or two
 abbrev pub coordinates : List ℕ → Pair

@@ -38,11 +38,11 @@ pub struct Refused {
     pub refusal: Refusal,
 }
 
-/// One element of each side.
-#[derive(Clone, Copy)]
-pub struct Both<E> {
-    pub first: E,
-    pub second: E,
+/// One of each side.
+#[derive(Clone, Copy, Drop)]
+pub struct Both<T> {
+    pub first: T,
+    pub second: T,
 }
 
 /// What the sides handed over, and what each made of what it got.
@@ -59,19 +59,20 @@ pub struct Agreement<E> {
 pub fn exchange<D: GroupDevice>(
     heap: Global,
     first: &mut D,
-    first_side: Side,
     second: &mut D,
-    second_side: Side,
+    sides: Both<Side>,
     base: D::Element,
 ) -> Result<Result<Agreement<D::Element>, Refused>, AllocError>
-    ensures { IfOk result (Exchanged D.GroupDevice.group D.GroupDevice.tally first.old second.old (brought first_side) (brought second_side) base first.new second.new) }
+    ensures { IfOk result (Exchanged D.GroupDevice.group D.GroupDevice.tally first.old second.old (brought sides.first) (brought sides.second) base first.new second.new) }
 {
     let neutral = first.neutral();
-    let tasks = Tasks {
-        first: task(heap, neutral, first_side, base)?,
-        second: task(heap, neutral, second_side, base)?,
+    let tasks = Both {
+        first: task(heap, neutral, sides.first, base)?,
+        second: task(heap, neutral, sides.second, base)?,
     };
     let tasks = run_round(heap, first, second, tasks)?;
+    // A refusal stays apart from memory that fails: the law is about the inner result, and an error
+    // enum for both would have each clause set memory aside.
     let handed = match both_answers(answer(&tasks.first), answer(&tasks.second)) {
         Ok(handed) => handed,
         Err(refused) => return Ok(Err(refused)),
@@ -79,13 +80,6 @@ pub fn exchange<D: GroupDevice>(
     let tasks = run_round(heap, first, second, hand_over(tasks, handed))?;
     let agreed = both_answers(answer(&tasks.first), answer(&tasks.second));
     Ok(join(handed, agreed))
-}
-
-// A multiplication of each side.
-#[derive(Drop)]
-struct Tasks<E> {
-    first: Task<E, WindowRule>,
-    second: Task<E, WindowRule>,
 }
 
 // The first multiplication of a side, with cells and digit words enough.
@@ -125,44 +119,33 @@ fn task<E: Copy>(
 fn fill<E: Copy>(heap: Global, element: E, count: usize) -> Result<Vec<E>, AllocError>
     ensures { IfOk result (λ v. length v.items ≡ count) }
 {
-    let mut cells = Vec::new(heap);
-    for _ in 0..count {
-        cells.push(element)?;
-    }
-    Ok(cells)
+    Ok(vec![in heap; element; count]?)
 }
 
-// Makes one multiplication of each side.
+// Makes one multiplication of each side. Its list of one task is a vector: a slice over a single
+// value asks that it fits in memory, which the type of a generic element does not say.
 fn run_round<D: GroupDevice>(
     heap: Global,
     first: &mut D,
     second: &mut D,
-    tasks: Tasks<D::Element>,
-) -> Result<Tasks<D::Element>, AllocError>
+    tasks: Both<Task<D::Element, WindowRule>>,
+) -> Result<Both<Task<D::Element, WindowRule>>, AllocError>
     ensures first { IfOk result (λ o. Ran D.GroupDevice.group D.GroupDevice.tally first.old tasks.first first.new o.first) }
     ensures second { IfOk result (λ o. Ran D.GroupDevice.group D.GroupDevice.tally second.old tasks.second second.new o.second) }
 {
-    let Tasks {
-        first: first_task,
-        second: second_task,
-    } = tasks;
     let mut first_tasks = Vec::new(heap);
-    first_tasks.push(first_task)?;
+    first_tasks.push(tasks.first)?;
     let mut second_tasks = Vec::new(heap);
-    second_tasks.push(second_task)?;
+    second_tasks.push(tasks.second)?;
     run_both(
         first,
         first_tasks.as_mut_slice(),
         second,
         second_tasks.as_mut_slice(),
     );
-    let Some(first_task) = first_tasks.pop() else {
-        unreachable()
-    };
-    let Some(second_task) = second_tasks.pop() else {
-        unreachable()
-    };
-    Ok(Tasks {
+    let first_task = first_tasks.pop().unwrap();
+    let second_task = second_tasks.pop().unwrap();
+    Ok(Both {
         first: first_task,
         second: second_task,
     })
@@ -173,10 +156,7 @@ fn answer<E: Copy>(task: &Task<E, WindowRule>) -> Result<E, Refusal>
     requires { is_some task.now.outcome ≡ true }
     ensures { task.now.outcome ≡ Some result }
 {
-    match task.outcome {
-        Some(result) => result,
-        None => unreachable(),
-    }
+    task.outcome.unwrap()
 }
 
 // Both answers, or the first refusal of the two.
@@ -186,38 +166,34 @@ fn both_answers<E: Copy>(
 ) -> Result<Both<E>, Refused>
     ensures { result ≡ both_of first second }
 {
-    match first {
-        Err(refusal) => Err(Refused {
-            party: Party::First,
-            refusal,
-        }),
-        Ok(first) => match second {
-            Err(refusal) => Err(Refused {
-                party: Party::Second,
-                refusal,
-            }),
-            Ok(second) => Ok(Both { first, second }),
-        },
-    }
+    let first = first.map_err(|refusal| Refused {
+        party: Party::First,
+        refusal,
+    })?;
+    let second = second.map_err(|refusal| Refused {
+        party: Party::Second,
+        refusal,
+    })?;
+    Ok(Both { first, second })
 }
 
 // What was handed over, with the answers of the second round.
 fn join<E: Copy>(handed: Both<E>, agreed: Result<Both<E>, Refused>) -> Result<Agreement<E>, Refused>
     ensures { result ≡ joined handed agreed }
 {
-    match agreed {
-        Ok(agreed) => Ok(Agreement { handed, agreed }),
-        Err(refused) => Err(refused),
-    }
+    agreed.map(|agreed| Agreement { handed, agreed })
 }
 
 // The multiplications of the second round: each on what the other side handed over.
-fn hand_over<E: Copy>(tasks: Tasks<E>, handed: Both<E>) -> Tasks<E>
+fn hand_over<E: Copy>(
+    tasks: Both<Task<E, WindowRule>>,
+    handed: Both<E>,
+) -> Both<Task<E, WindowRule>>
     ensures first { posed (call rule_of result.first) ≡ going_on (call rule_of tasks.first) handed.second }
     ensures second { posed (call rule_of result.second) ≡ going_on (call rule_of tasks.second) handed.first }
 {
-    let Tasks { first, second } = tasks;
-    Tasks {
+    let Both { first, second } = tasks;
+    Both {
         first: go_on(first, handed.second),
         second: go_on(second, handed.first),
     }

@@ -1,14 +1,13 @@
 -- An answer in a group, from the exchange on two new devices. Assumes nothing.
 use Rattle.std.proofs.Common.{◌≡◌, ℕ, Bool, IfOk, Ok, Err, Result, sym, refl, ap, ◌∙◌, subst, arith}
-use Rattle.exchange_lines.specs.declared.answer.Answer.{Answer}
-use Rattle.exchange_lines.specs.declared.answer.Answer.TheVariants.{Agreed}
 use Rattle.exchange_lines.specs.declared.answer.Told.{Told}
 use Rattle.elements.specs.declared.element.Pair.{Pair}
 use Rattle.exchange.specs.declared.exchange.Agreement.{Agreement}
 use Rattle.exchange.specs.declared.exchange.Refused.{Refused}
 use Rattle.exchange_lines.specs.declared.answer.Account.{Account}
-use Rattle.exchange_lines.specs.declared.request.GroupKind.{GroupKind}
-use Rattle.exchange_lines.specs.Answers.{Answered, InGroup, InKind, SizedAs, Tells, ToldBy, account_at, account_of, answer_from, first_side, in_pairs, second_side, told_of}
+use Rattle.elements.specs.declared.kind.GroupKind.{GroupKind}
+use Rattle.exchange.specs.declared.exchange.Both.{Both}
+use Rattle.exchange_lines.specs.Answers.{Answer, Answered, InGroup, InKind, SizedAs, Tells, ToldBy, account_at, account_of, answer_from, first_side, in_pairs, second_side, told_of, told_with}
 use Rattle.elements.specs.Elements.{coordinates}
 use Rattle.exchange.specs.Exchanges.{Agrees, Brought, Exchanged, exchanged, worked}
 use Rattle.exchange_lines.specs.Requests.{Asked}
@@ -22,11 +21,11 @@ use Rattle.std.proofs.lemmas.Bool.{cond-true}
 -- what is told of an agreement, as two numbers each
 abbrev pairs_of : {E : Type 0} → Group E → Brought → Brought → Agreement E → Told Pair
 pairs_of g p q a =
-    in_pairs (λ e. coordinates (g.code e)) (record { agreed = a.agreed.first; first = account_of p zero_tally a.handed.first; second = account_of q zero_tally a.handed.second })
+    in_pairs (λ e. coordinates (g.code e)) (record { agreed = a.agreed.first; accounts = record { first = account_of p zero_tally a.handed.first; second = account_of q zero_tally a.handed.second } })
 
 -- what is told of an agreement that keeps the law
 tells : {E : Type 0} (g : Group E) (p q : Brought) (base : E) (x : Result (Agreement E) Refused) → ((a : Agreement E) → x ≡ Ok a → Agrees g p q base a) →
-    (t : Told Pair) → answer_from (λ e. coordinates (g.code e)) (told_of p q zero_tally zero_tally x) ≡ Agreed t → Tells g p q base t
+    (t : Told Pair) → answer_from (λ e. coordinates (g.code e)) (told_of p q zero_tally zero_tally x) ≡ Ok t → Tells g p q base t
 tells g p q base (Err x) law t e = absurd (let z : ◌≡◌ {A = ℕ} 0 1 = cc in omega arith)
 tells g p q base (Ok a) law t e =
     let l = law a refl in
@@ -39,33 +38,29 @@ tells g p q base (Ok a) law t e =
       second_tally = refl;
     })
 
--- the same, put together piece by piece
-pub in_pairs_lem : {E : Type 0} (pair : E → Pair) (t : Told E) (x y z : Pair) (f s : Account Pair) → x ≡ pair t.agreed → y ≡ pair t.first.handed → z ≡ pair t.second.handed → f ≡ account_at t.first y → s ≡ account_at t.second z →
-    record { agreed = x; first = f; second = s } ≡ in_pairs pair t
-in_pairs_lem {E} pair t x y z f s ex ey ez ef es =
-    ap (λ (k : Pair). record { agreed = k; first = f; second = s }) ex
-    ∙ ap (λ (k : Account Pair). record { agreed = pair t.agreed; first = k; second = s }) (ef ∙ ap (account_at t.first) ey)
-    ∙ ap (λ (k : Account Pair). record { agreed = pair t.agreed; first = account_at t.first (pair t.first.handed); second = k }) (es ∙ ap (account_at t.second) ez)
+-- two tallies
+abbrev two : (t t' : Tally) → Both Tally
+two t t' = record { first = t; second = t' }
 
--- what is told with some tallies
-abbrev told_with : {E : Type 0} → Agreement E → (t t' plain plain' : Tally) → Told E
-told_with a t t' plain plain' = record {
-  agreed = a.agreed.first;
-  first = record { handed = a.handed.first; tally = t; plain = plain };
-  second = record { handed = a.handed.second; tally = t'; plain = plain' };
-}
+module _ {S E : Type 0} (group : S → Group E) (tally : S → Tally) (p q : Brought) (base : E) (s u s' u' : S) where
+  -- an exchange that agreed, told with the tallies of both devices
+  with_tallies_of : (a : Agreement E) → Exchanged group tally s u p q base s' u' (Ok a) → (t t' plain plain' : Tally) → t ≡ tally s' → t' ≡ tally u' → plain ≡ worked p (worked p zero_tally) → plain' ≡ worked q (worked q zero_tally) →
+      told_with (two t t') (two plain plain') (Ok a) ≡ told_of p q (tally s) (tally u) (Ok a)
+  with_tallies_of a x t t' plain plain' et et' ep ep' =
+      ap (λ (k : Tally). told_with (two k t') (two plain plain') (Ok a)) (et ∙ x.first_work a refl)
+      ∙ ap (λ (k : Tally). told_with (two (worked p (worked p (tally s))) k) (two plain plain') (Ok a)) (et' ∙ x.second_work a refl)
+      ∙ ap (λ (k : Tally). told_with (two (worked p (worked p (tally s))) (worked q (worked q (tally u)))) (two k plain') (Ok a)) ep
+      ∙ ap (λ (k : Tally). told_with (two (worked p (worked p (tally s))) (worked q (worked q (tally u)))) (two (worked p (worked p zero_tally)) k) (Ok a)) ep'
 
-module _ {S E : Type 0} (group : S → Group E) (tally : S → Tally) (p q : Brought) (base : E) where
-  -- an exchange that agreed is told with the tallies of both devices
-  pub told_ok : (s u s' u' : S) (a : Agreement E) (r : Result (Agreement E) Refused) → Exchanged group tally s u p q base s' u' r → r ≡ Ok a → (t t' plain plain' : Tally) → t ≡ tally s' → t' ≡ tally u' → plain ≡ worked p (worked p zero_tally) → plain' ≡ worked q (worked q zero_tally) →
-      ToldBy group tally s u p q base (Ok (told_with a t t' plain plain'))
-  told_ok s u s' u' a r x er t t' plain plain' et et' ep ep' = record {
-    result =
-        ap (λ (k : Tally). Ok (told_with a k t' plain plain')) (et ∙ x.first_work a er)
-        ∙ ap (λ (k : Tally). Ok (told_with a (worked p (worked p (tally s))) k plain plain')) (et' ∙ x.second_work a er)
-        ∙ ap (λ (k : Tally). Ok (told_with a (worked p (worked p (tally s))) (worked q (worked q (tally u))) k plain')) ep
-        ∙ ap (λ (k : Tally). Ok (told_with a (worked p (worked p (tally s))) (worked q (worked q (tally u))) (worked p (worked p zero_tally)) k)) ep'
-        ∙ ap (told_of p q (tally s) (tally u)) (sym er ∙ x.result);
+  -- an exchange is told with the tallies of both devices
+  pub told_by : (r : Result (Agreement E) Refused) → Exchanged group tally s u p q base s' u' r → (t t' plain plain' : Tally) → t ≡ tally s' → t' ≡ tally u' → plain ≡ worked p (worked p zero_tally) → plain' ≡ worked q (worked q zero_tally) →
+      (m : Result (Told E) Refused) → m ≡ told_with (two t t') (two plain plain') r → ToldBy group tally s u p q base m
+  told_by (Err e) x t t' plain plain' et et' ep ep' m em = record {
+    result = em ∙ ap (told_of p q (tally s) (tally u)) x.result;
+    agrees = λ same b h. x.agrees same b (x.result ∙ h);
+  }
+  told_by (Ok a) x t t' plain plain' et et' ep ep' m em = record {
+    result = em ∙ with_tallies_of a x t t' plain plain' et et' ep ep' ∙ ap (told_of p q (tally s) (tally u)) x.result;
     agrees = λ same b h. x.agrees same b (x.result ∙ h);
   }
 

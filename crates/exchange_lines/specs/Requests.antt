@@ -1,12 +1,12 @@
 -- What a line asks for: eight fields with single spaces between them. Assumes nothing.
-use Rattle.std.specs.Prelude.{ℕ, cond, List, Some, None, vec_items, Option, ◌==◌}
-use Rattle.std.specs.Borrow.{Bor}
+use Rattle.std.specs.Prelude.{ℕ, List, Some, Vec, vec_items, Option}
+use Rattle.std.specs.declared.alloc.Global.{Global}
 use Rattle.lines.specs.Fields.{draws_text, key_text, number_then}
 use Rattle.elements.specs.declared.element.Pair.{Pair}
-use Rattle.exchange_lines.specs.declared.request.Draws.{Draws}
-use Rattle.exchange_lines.specs.declared.request.GroupKind.{GroupKind}
-use Rattle.exchange_lines.specs.declared.request.GroupKind.TheVariants.{Sums, Clock, Curve}
-use Rattle.exchange_lines.specs.declared.request.KeyDraws.{KeyDraws}
+use Rattle.elements.specs.declared.kind.GroupKind.{GroupKind}
+use Rattle.elements.specs.Kinds.{kind_numbered}
+use Rattle.exchange.specs.declared.exchange.Both.{Both}
+use Rattle.exchange_lines.specs.declared.request.Place.{Place}
 use Rattle.exchange_lines.specs.declared.request.Request.{Request}
 use Rattle.exchange_lines.specs.declared.request.Secrets.{Secrets}
 use Rattle.elements.specs.Elements.{pair_of}
@@ -29,28 +29,32 @@ view r = record {
   kind = r.kind;
   modulus = r.modulus;
   base = r.base;
-  first_key = vec_items r.first_key;
-  second_key = vec_items r.second_key;
-  first_draws = vec_items r.first_draws;
-  second_draws = vec_items r.second_draws;
+  first_key = vec_items r.keys.first;
+  second_key = vec_items r.keys.second;
+  first_draws = vec_items r.draws.first;
+  second_draws = vec_items r.draws.second;
 }
 
--- the group of a number, if there is one
-abbrev pub kind_numbered : ℕ → Option GroupKind
-kind_numbered n = cond (n == 1) (Some Sums) (cond (n == 2) (Some Clock) (cond (n == 3) (Some Curve) None))
-
--- the group of the number that a text begins with, and what comes behind it
-pub record KindThen : Type 0 where
+-- a group with its modulus and a base, which a text begins with, and what comes behind them
+pub record PlaceThen : Type 0 where
   pub kind : GroupKind
+  pub modulus : ℕ
+  pub base : Pair
   pub rest : List ℕ
 
--- such a group at the beginning of a text, if there is one
-abbrev pub kind_then : List ℕ → Option KindThen
-kind_then text = and_then (number_then text) (λ a. and_then (kind_numbered a.number) (λ x. Some (record { kind = x; rest = a.rest })))
+-- those at the beginning of a text, if it has them
+abbrev pub place_then : List ℕ → Option PlaceThen
+place_then text =
+    and_then (number_then text) (λ a.
+    and_then (kind_numbered a.number) (λ kind.
+    and_then (number_then a.rest) (λ n.
+    and_then (number_then n.rest) (λ x.
+    and_then (number_then x.rest) (λ y.
+    Some (record { kind = kind; modulus = n.number; base = pair_of x.number y.number; rest = y.rest }))))))
 
--- a group and a rest that a function returned
-abbrev pub kinded : GroupKind × Bor (List ℕ) → KindThen
-kinded p = record { kind = p.0; rest = p.1.now }
+-- a place that a function returned
+abbrev pub placed : Place → PlaceThen
+placed p = record { kind = p.kind; modulus = p.modulus; base = p.base; rest = p.rest.now }
 
 -- the random bytes of both sides
 pub record DrawsThen : Type 0 where
@@ -62,7 +66,7 @@ abbrev pub draws_both : List ℕ → Option DrawsThen
 draws_both text = and_then (behind 32 text) (λ rest. and_then (draws_text (before 32 text)) (λ a. and_then (draws_text rest) (λ b. Some (record { first = a; second = b }))))
 
 -- random bytes that a function returned
-abbrev pub draws_view : Draws → DrawsThen
+abbrev pub draws_view : Both (Vec ℕ Global) → DrawsThen
 draws_view d = record { first = vec_items d.first; second = vec_items d.second }
 
 -- a key and the random bytes of both sides
@@ -76,8 +80,8 @@ abbrev pub key_draws : List ℕ → Option KeyThen
 key_draws text = and_then (behind 32 text) (λ rest. and_then (key_text (before 32 text)) (λ key. and_then (draws_both rest) (λ d. Some (record { key = key; first_draws = d.first; second_draws = d.second }))))
 
 -- a key and random bytes that a function returned
-abbrev pub key_view : KeyDraws → KeyThen
-key_view d = record { key = vec_items d.key; first_draws = vec_items d.first_draws; second_draws = vec_items d.second_draws }
+abbrev pub key_view : Vec ℕ Global × Both (Vec ℕ Global) → KeyThen
+key_view d = record { key = vec_items d.0; first_draws = vec_items d.1.first; second_draws = vec_items d.1.second }
 
 -- both keys and the random bytes of both sides
 pub record SecretsThen : Type 0 where
@@ -93,22 +97,19 @@ secrets text =
 
 -- keys and random bytes that a function returned
 abbrev pub secrets_view : Secrets → SecretsThen
-secrets_view d = record { first_key = vec_items d.first_key; second_key = vec_items d.second_key; first_draws = vec_items d.first_draws; second_draws = vec_items d.second_draws }
+secrets_view d = record { first_key = vec_items d.keys.first; second_key = vec_items d.keys.second; first_draws = vec_items d.draws.first; second_draws = vec_items d.draws.second }
 
 -- what a line asks for, if it can be read
 abbrev pub requested : List ℕ → Option Asked
 requested line =
-    and_then (kind_then line) (λ g.
-    and_then (number_then g.rest) (λ n.
-    and_then (number_then n.rest) (λ x.
-    and_then (number_then x.rest) (λ y.
-    and_then (secrets y.rest) (λ d.
+    and_then (place_then line) (λ at.
+    and_then (secrets at.rest) (λ d.
     Some (record {
-      kind = g.kind;
-      modulus = n.number;
-      base = pair_of x.number y.number;
+      kind = at.kind;
+      modulus = at.modulus;
+      base = at.base;
       first_key = d.first_key;
       second_key = d.second_key;
       first_draws = d.first_draws;
       second_draws = d.second_draws;
-    }))))))
+    })))

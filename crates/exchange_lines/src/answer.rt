@@ -1,23 +1,19 @@
 //! How a request is answered: by an exchange on two new devices of its group.
-ghost use Rattle.std.specs.Prelude.{◌≡◌, ℕ, IfOk, ◌==◌};
-ghost use Rattle.exchange_lines.specs.Answers.{Answered, InGroup, SizedAs, ToldBy, account_at, in_pairs};
-ghost use Rattle.elements.specs.Elements.{clock_element, coordinates, curve_element, sums_element};
+ghost use Rattle.std.specs.Prelude.{◌≡◌, ℕ, IfOk, None};
+ghost use Rattle.elements.specs.Elements.{coordinates};
 ghost use Rattle.exchange.specs.Exchanges.{brought, worked};
+ghost use Rattle.exchange_lines.specs.Answers.{Answered, BothNew, InGroup, OneNew, SizedAs, ToldBy, account_at, answer_from, in_pairs, told_with};
 ghost use Rattle.exchange_lines.specs.Requests.{view};
-ghost use Rattle.groups.specs.Clock.{clock};
-ghost use Rattle.groups.specs.Curve.{curve};
-ghost use Rattle.groups.specs.SetUp.{in_range};
-ghost use Rattle.groups.specs.Sums.{sums};
 ghost use Rattle.groups.specs.Tally.{zero_tally};
+ghost use Rattle.inputs.specs.Sizes.{sizes_refusal};
 
-use crate::request::{GroupKind, Request};
-use common::refusal::Refusal;
-use elements::element::{
-    Pair, clock_element, clock_pair, curve_element, curve_pair, sums_element, sums_pair,
-};
-use exchange::exchange::{Party, Refused, Side, exchange};
-use groups::clock::{Clock, ClockPoint};
-use groups::curve::{Curve, CurvePoint};
+use crate::request::Request;
+use elements::element::Pair;
+use elements::kind::GroupKind;
+use elements::pair_device::PairDevice;
+use exchange::exchange::{Agreement, Both, Party, Refused, Side, exchange};
+use groups::clock::Clock;
+use groups::curve::Curve;
 use groups::device::GroupDevice;
 use groups::sums::Sums;
 use groups::tally::Tally;
@@ -39,141 +35,88 @@ pub struct Account<E> {
 #[derive(Clone, Copy)]
 pub struct Told<E> {
     pub agreed: E,
-    pub first: Account<E>,
-    pub second: Account<E>,
-}
-
-/// The answer to a request.
-#[derive(Clone, Copy)]
-pub enum Answer {
-    Agreed(Told<Pair>),
-    Refused(Refused),
+    pub accounts: Both<Account<E>>,
 }
 
 impl Request {
     /// Sets up two devices of the group (12) and exchanges on them. The first side goes by rule 1
     /// with windows of 5 bits, draws of 12 and 100 windows, the second by rule 3 with windows of 3
     /// bits, draws of 6 and 160 windows. Answers `Err` only where memory fails.
-    pub fn answer(self, heap: Global) -> Result<Answer, AllocError>
+    pub fn answer(self, heap: Global) -> Result<Result<Told<Pair>, Refused>, AllocError>
         ensures { IfOk result (Answered (view self)) }
     {
         let Request {
             kind,
             modulus,
             base,
-            first_key,
-            second_key,
-            first_draws,
-            second_draws,
+            keys,
+            draws,
         } = self;
-        let sides = Sides {
+        let sides = Both {
             first: Side {
                 rule: WindowRule::Shifted,
-                sizes: first_sizes(),
-                key: first_key,
-                draws: first_draws,
+                sizes: fixed_sizes(5, 12, 100),
+                key: keys.first,
+                draws: draws.first,
             },
             second: Side {
                 rule: WindowRule::Nonzero,
-                sizes: second_sizes(),
-                key: second_key,
-                draws: second_draws,
+                sizes: fixed_sizes(3, 6, 160),
+                key: keys.second,
+                draws: draws.second,
             },
         };
         match kind {
-            GroupKind::Sums => answer_sums(heap, modulus, base, sides),
-            GroupKind::Clock => answer_clock(heap, modulus, base, sides),
-            GroupKind::Curve => answer_curve(heap, modulus, base, sides),
+            GroupKind::Sums => answer_in::<Sums>(heap, modulus, base, sides),
+            GroupKind::Clock => answer_in::<Clock>(heap, modulus, base, sides),
+            GroupKind::Curve => answer_in::<Curve>(heap, modulus, base, sides),
         }
     }
 }
 
-// Both sides.
-#[derive(Drop)]
-struct Sides {
-    first: Side,
-    second: Side,
+// Sizes that keep the limits.
+fn fixed_sizes(window_width: u32, draw_width: u32, windows: u32) -> Sizes
+    requires { sizes_refusal window_width draw_width windows ≡ None }
+    ensures { SizedAs window_width draw_width windows result }
+{
+    Sizes::new(window_width, draw_width, windows).unwrap()
 }
 
-// The sizes of the first side.
-fn first_sizes() -> Sizes
-    ensures { SizedAs 5 12 100 result }
+// The answer in a group of devices.
+fn answer_in<D: PairDevice>(
+    heap: Global,
+    modulus: u32,
+    base: Pair,
+    sides: Both<Side>,
+) -> Result<Result<Told<Pair>, Refused>, AllocError>
+    ensures { IfOk result (InGroup (D.fits modulus) (D.group_at modulus) (brought sides.first) (brought sides.second) (D.element_at base)) }
 {
-    match Sizes::new(5, 12, 100) {
-        Ok(sizes) => sizes,
-        Err(_) => unreachable(),
-    }
+    // A refusal is an answer, and memory that fails is none: so no `?` here, as in `exchange`.
+    let Both {
+        mut first,
+        mut second,
+    } = match new_devices::<D>(modulus) {
+        Ok(devices) => devices,
+        Err(refused) => return Ok(Err(refused)),
+    };
+    let told = tell(heap, &mut first, &mut second, sides, D::element_at(base))?;
+    Ok(as_pairs::<D>(told))
 }
 
-// The sizes of the second side.
-fn second_sizes() -> Sizes
-    ensures { SizedAs 3 6 160 result }
+// A new device for each side; a modulus that no device can have is refused by the first.
+fn new_devices<D: PairDevice>(modulus: u32) -> Result<Both<D>, Refused>
+    ensures { BothNew D.group D.tally (D.fits modulus) (D.group_at modulus) result }
 {
-    match Sizes::new(3, 6, 160) {
-        Ok(sizes) => sizes,
-        Err(_) => unreachable(),
-    }
+    let first = set_up::<D>(modulus)?;
+    let second = set_up::<D>(modulus)?;
+    Ok(Both { first, second })
 }
 
-// The answer in sums.
-fn answer_sums(heap: Global, modulus: u32, base: Pair, sides: Sides) -> Result<Answer, AllocError>
-    ensures { IfOk result (InGroup (in_range modulus) (sums modulus) (brought sides.first) (brought sides.second) (sums_element base)) }
+// A new device; a modulus that it can't have is refused by the first side.
+fn set_up<D: PairDevice>(modulus: u32) -> Result<D, Refused>
+    ensures { OneNew D.group D.tally (D.fits modulus) (D.group_at modulus) result }
 {
-    let mut first = match Sums::new(modulus) {
-        Ok(device) => device,
-        Err(refusal) => return Ok(no_device(refusal)),
-    };
-    let mut second = match Sums::new(modulus) {
-        Ok(device) => device,
-        Err(refusal) => return Ok(no_device(refusal)),
-    };
-    match tell(heap, &mut first, &mut second, sides, sums_element(base))? {
-        Ok(told) => Ok(Answer::Agreed(sums_told(told))),
-        Err(refused) => Ok(Answer::Refused(refused)),
-    }
-}
-
-// The answer on the clock.
-fn answer_clock(heap: Global, modulus: u32, base: Pair, sides: Sides) -> Result<Answer, AllocError>
-    ensures { IfOk result (InGroup (in_range modulus) (clock modulus) (brought sides.first) (brought sides.second) (clock_element base)) }
-{
-    let mut first = match Clock::new(modulus) {
-        Ok(device) => device,
-        Err(refusal) => return Ok(no_device(refusal)),
-    };
-    let mut second = match Clock::new(modulus) {
-        Ok(device) => device,
-        Err(refusal) => return Ok(no_device(refusal)),
-    };
-    match tell(heap, &mut first, &mut second, sides, clock_element(base))? {
-        Ok(told) => Ok(Answer::Agreed(clock_told(told))),
-        Err(refused) => Ok(Answer::Refused(refused)),
-    }
-}
-
-// The answer on the curve.
-fn answer_curve(heap: Global, modulus: u32, base: Pair, sides: Sides) -> Result<Answer, AllocError>
-    ensures { IfOk result (InGroup (modulus == 11) curve (brought sides.first) (brought sides.second) (curve_element base)) }
-{
-    let mut first = match Curve::new(modulus) {
-        Ok(device) => device,
-        Err(refusal) => return Ok(no_device(refusal)),
-    };
-    let mut second = match Curve::new(modulus) {
-        Ok(device) => device,
-        Err(refusal) => return Ok(no_device(refusal)),
-    };
-    match tell(heap, &mut first, &mut second, sides, curve_element(base))? {
-        Ok(told) => Ok(Answer::Agreed(curve_told(told))),
-        Err(refused) => Ok(Answer::Refused(refused)),
-    }
-}
-
-// The answer where the modulus is refused: by the first side.
-fn no_device(refusal: Refusal) -> Answer
-    ensures { result ≡ Answer.Refused (record { party = Party.First; refusal = refusal }) }
-{
-    Answer::Refused(Refused {
+    D::set_up(modulus).map_err(|refusal| Refused {
         party: Party::First,
         refusal,
     })
@@ -184,29 +127,21 @@ fn tell<D: GroupDevice>(
     heap: Global,
     first: &mut D,
     second: &mut D,
-    sides: Sides,
+    sides: Both<Side>,
     base: D::Element,
 ) -> Result<Result<Told<D::Element>, Refused>, AllocError>
     ensures { IfOk result (ToldBy D.GroupDevice.group D.GroupDevice.tally first.old second.old (brought sides.first) (brought sides.second) base) }
 {
-    let first_plain = plain(&sides.first);
-    let second_plain = plain(&sides.second);
-    match exchange(heap, first, sides.first, second, sides.second, base)? {
-        Ok(agreement) => Ok(Ok(Told {
-            agreed: agreement.agreed.first,
-            first: Account {
-                handed: agreement.handed.first,
-                tally: first.tally(),
-                plain: first_plain,
-            },
-            second: Account {
-                handed: agreement.handed.second,
-                tally: second.tally(),
-                plain: second_plain,
-            },
-        })),
-        Err(refused) => Ok(Err(refused)),
-    }
+    let plain = Both {
+        first: plain(&sides.first),
+        second: plain(&sides.second),
+    };
+    let agreement = exchange(heap, first, second, sides, base)?;
+    let counted = Both {
+        first: first.tally(),
+        second: second.tally(),
+    };
+    Ok(with_tallies(agreement, counted, plain))
 }
 
 // The plain tally of two multiplications of a side, from zero.
@@ -217,7 +152,47 @@ fn plain(side: &Side) -> Tally
     tally_after(once, &side.rule, side.sizes)
 }
 
-// An account with another element.
+// An agreement with what each device counted, and the plain tallies.
+fn with_tallies<E: Copy>(
+    agreement: Result<Agreement<E>, Refused>,
+    counted: Both<Tally>,
+    plain: Both<Tally>,
+) -> Result<Told<E>, Refused>
+    ensures { result ≡ told_with counted plain agreement }
+{
+    let Agreement { handed, agreed } = agreement?;
+    Ok(Told {
+        agreed: agreed.first,
+        accounts: Both {
+            first: Account {
+                handed: handed.first,
+                tally: counted.first,
+                plain: plain.first,
+            },
+            second: Account {
+                handed: handed.second,
+                tally: counted.second,
+                plain: plain.second,
+            },
+        },
+    })
+}
+
+// What is told, with two numbers for each element.
+fn as_pairs<D: PairDevice>(told: Result<Told<D::Element>, Refused>) -> Result<Told<Pair>, Refused>
+    ensures { (n : ℕ) → result ≡ answer_from (λ e. coordinates ((D.group_at n).code e)) told }
+{
+    let Told { agreed, accounts } = told?;
+    Ok(Told {
+        agreed: D::pair_of(agreed),
+        accounts: Both {
+            first: account_at(accounts.first, D::pair_of(accounts.first.handed)),
+            second: account_at(accounts.second, D::pair_of(accounts.second.handed)),
+        },
+    })
+}
+
+// An account with two numbers for its element.
 fn account_at<E: Copy>(account: Account<E>, handed: Pair) -> Account<Pair>
     ensures { result ≡ account_at account handed }
 {
@@ -230,38 +205,5 @@ fn account_at<E: Copy>(account: Account<E>, handed: Pair) -> Account<Pair>
         handed,
         tally,
         plain,
-    }
-}
-
-// What is told, with sums as two numbers.
-fn sums_told(told: Told<u32>) -> Told<Pair>
-    ensures { (n : ℕ) → result ≡ in_pairs (λ a. coordinates ((sums n).code a)) told }
-{
-    Told {
-        agreed: sums_pair(told.agreed),
-        first: account_at(told.first, sums_pair(told.first.handed)),
-        second: account_at(told.second, sums_pair(told.second.handed)),
-    }
-}
-
-// What is told, with points of the clock as two numbers.
-fn clock_told(told: Told<ClockPoint>) -> Told<Pair>
-    ensures { (n : ℕ) → result ≡ in_pairs (λ a. coordinates ((clock n).code a)) told }
-{
-    Told {
-        agreed: clock_pair(told.agreed),
-        first: account_at(told.first, clock_pair(told.first.handed)),
-        second: account_at(told.second, clock_pair(told.second.handed)),
-    }
-}
-
-// What is told, with points of the curve as two numbers.
-fn curve_told(told: Told<CurvePoint>) -> Told<Pair>
-    ensures { result ≡ in_pairs (λ a. coordinates (curve.code a)) told }
-{
-    Told {
-        agreed: curve_pair(told.agreed),
-        first: account_at(told.first, curve_pair(told.first.handed)),
-        second: account_at(told.second, curve_pair(told.second.handed)),
     }
 }

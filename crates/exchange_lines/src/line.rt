@@ -1,16 +1,15 @@
 //! The lines that `agree` prints.
-ghost use Rattle.std.specs.Prelude.{◌≡◌, ◌++◌, IfOk, OnOk};
-ghost use Rattle.exchange_lines.specs.Lines.{LineAnswered, account_text, answer_text, kind_of, pair_text, party_text, refused_text, tally_text, told_text};
+ghost use Rattle.std.specs.Prelude.{◌≡◌, ◌++◌, IfOk, Some, codes, string_bytes};
+ghost use Rattle.exchange_lines.specs.Lines.{LineAnswered, account_text, answer_text, kind_of, party_text, refused_text, told_text};
 
-use crate::answer::{Account, Answer, Told};
+use crate::answer::{Account, Told};
 use crate::request::Request;
 use elements::element::Pair;
-use exchange::exchange::{Party, Refused};
-use groups::tally::Tally;
-use lines::line::{trim, write_refusal};
+use exchange::exchange::{Both, Party, Refused};
+use lines::line::trim;
 use lines::summary::Kind;
 use std::alloc::{AllocError, Global};
-use text::write::push_number;
+use std::fmt;
 
 /// Answers a line and appends what it says to `out`, with a line feed. Answers `Err` only where
 /// memory fails.
@@ -22,94 +21,80 @@ pub fn answer_line(heap: Global, line: &[u8], out: &mut Vec<u8>) -> Result<Kind,
         return Ok(Kind::Unreadable);
     };
     let answer = request.answer(heap)?;
-    write_answer(out, answer)?;
-    out.extend_from_slice(b"\n")?;
+    let text = line_of(heap, answer)?;
+    out.extend_from_slice(text.as_bytes())?;
     Ok(kind_of(answer))
 }
 
 // How an answer is counted.
-fn kind_of(answer: Answer) -> Kind
+fn kind_of(answer: Result<Told<Pair>, Refused>) -> Kind
     ensures { result ≡ kind_of answer }
 {
     match answer {
-        Answer::Agreed(_) => Kind::Done,
-        Answer::Refused(_) => Kind::Refused,
+        Ok(_) => Kind::Done,
+        Err(_) => Kind::Refused,
     }
 }
 
-// Appends an answer.
-fn write_answer(out: &mut Vec<u8>, answer: Answer) -> Result<(), AllocError>
-    ensures { OnOk result (out.new.items ≡ out.old.items ++ answer_text answer) }
+// The line of an answer.
+fn line_of(heap: Global, answer: Result<Told<Pair>, Refused>) -> Result<String, AllocError>
+    ensures { IfOk result (λ s. string_bytes s ≡ answer_text answer ++ codes "\n") }
 {
     match answer {
-        Answer::Agreed(told) => write_told(out, told),
-        Answer::Refused(refused) => write_refused(out, refused),
+        Ok(told) => format!(in heap; "{told}\n"),
+        Err(refused) => {
+            let refused = Shown(refused);
+            format!(in heap; "{refused}\n")
+        }
     }
 }
 
-// Appends a refusal and whose it is.
-fn write_refused(out: &mut Vec<u8>, refused: Refused) -> Result<(), AllocError>
-    ensures { OnOk result (out.new.items ≡ out.old.items ++ refused_text refused) }
-{
-    write_refusal(out, refused.refusal)?;
-    out.extend_from_slice(b" ")?;
-    write_party(out, refused.party)?;
-    Ok(())
-}
+impl fmt::Display for Told<Pair> {
+    ghost output = { λ told. Some (told_text told) };
 
-// Appends the name of a side.
-fn write_party(out: &mut Vec<u8>, party: Party) -> Result<(), AllocError>
-    ensures { OnOk result (out.new.items ≡ out.old.items ++ party_text party) }
-{
-    match party {
-        Party::First => out.extend_from_slice(b"machine"),
-        Party::Second => out.extend_from_slice(b"chip"),
+    /// `agreed`, the element, and both sides.
+    fn fmt<W: fmt::Write>(&self, f: &mut fmt::Formatter<W>) -> fmt::Result {
+        let Told { agreed, accounts } = *self;
+        let Both { first, second } = accounts;
+        write!(f, "agreed {agreed} machine {first} chip {second}")
     }
 }
 
-// Appends `agreed`, the element, and both sides.
-fn write_told(out: &mut Vec<u8>, told: Told<Pair>) -> Result<(), AllocError>
-    ensures { OnOk result (out.new.items ≡ out.old.items ++ told_text told) }
-{
-    out.extend_from_slice(b"agreed ")?;
-    write_pair(out, told.agreed)?;
-    out.extend_from_slice(b" machine ")?;
-    write_account(out, told.first)?;
-    out.extend_from_slice(b" chip ")?;
-    write_account(out, told.second)?;
-    Ok(())
+impl fmt::Display for Account<Pair> {
+    ghost output = { λ account. Some (account_text account) };
+
+    /// What a side handed over, `tally` with its tally and `plain` with the plain one.
+    fn fmt<W: fmt::Write>(&self, f: &mut fmt::Formatter<W>) -> fmt::Result {
+        let Account {
+            handed,
+            tally,
+            plain,
+        } = *self;
+        write!(f, "{handed} tally {tally} plain {plain}")
+    }
 }
 
-// Appends what a side handed over, `tally` with its tally and `plain` with the plain one.
-fn write_account(out: &mut Vec<u8>, account: Account<Pair>) -> Result<(), AllocError>
-    ensures { OnOk result (out.new.items ≡ out.old.items ++ account_text account) }
-{
-    write_pair(out, account.handed)?;
-    out.extend_from_slice(b" tally ")?;
-    write_tally(out, account.tally)?;
-    out.extend_from_slice(b" plain ")?;
-    write_tally(out, account.plain)?;
-    Ok(())
+// What the exchange knows, in the words of `agree`.
+#[derive(Clone, Copy)]
+struct Shown<T>(T);
+
+impl fmt::Display for Shown<Refused> {
+    ghost output = { λ shown. Some (refused_text shown.0) };
+
+    fn fmt<W: fmt::Write>(&self, f: &mut fmt::Formatter<W>) -> fmt::Result {
+        let Refused { party, refusal } = self.0;
+        let party = Shown(party);
+        write!(f, "{refusal} {party}")
+    }
 }
 
-// Appends doublings, additions and trace.
-fn write_tally(out: &mut Vec<u8>, tally: Tally) -> Result<(), AllocError>
-    ensures { OnOk result (out.new.items ≡ out.old.items ++ tally_text tally) }
-{
-    push_number(out, tally.doublings)?;
-    out.extend_from_slice(b" ")?;
-    push_number(out, tally.additions)?;
-    out.extend_from_slice(b" ")?;
-    push_number(out, tally.trace)?;
-    Ok(())
-}
+impl fmt::Display for Shown<Party> {
+    ghost output = { λ shown. Some (party_text shown.0) };
 
-// Appends two numbers.
-fn write_pair(out: &mut Vec<u8>, pair: Pair) -> Result<(), AllocError>
-    ensures { OnOk result (out.new.items ≡ out.old.items ++ pair_text pair) }
-{
-    push_number(out, pair.x as u64)?;
-    out.extend_from_slice(b" ")?;
-    push_number(out, pair.y as u64)?;
-    Ok(())
+    fn fmt<W: fmt::Write>(&self, f: &mut fmt::Formatter<W>) -> fmt::Result {
+        f.write_str(match self.0 {
+            Party::First => "machine",
+            Party::Second => "chip",
+        })
+    }
 }

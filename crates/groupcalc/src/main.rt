@@ -10,25 +10,19 @@ mod answer;
 mod query;
 
 use answer::answer_to;
-use query::LineReader;
+use query::Query;
 use std::io;
 use std::io::Read;
 
 fn main(rt: HostRuntime) -> io::Result<()> {
     let mut input = Vec::new(rt.alloc());
     rt.stdin().read_to_end(&mut input)?;
-    let mut line = LineReader::new();
-    let mut begun = false;
-    for byte in input.iter() {
-        begun = *byte != b'\n';
-        if begun {
-            line.take(*byte);
-        } else {
-            rt.println(answer_to(line.end()))?;
+    for line in input.split_inclusive(|byte| *byte == b'\n') {
+        let line = line.strip_suffix(b"\n").unwrap_or(line);
+        match answer_to(Query::read(line)) {
+            Ok(report) => rt.println(report)?,
+            Err(unanswered) => rt.println(unanswered)?,
         }
-    }
-    if begun {
-        rt.println(answer_to(line.end()))?;
     }
     Ok(())
 }

@@ -1,86 +1,81 @@
 //! Reads lines of six decimal numbers from bytes of any content.
+ghost use Rattle.std.specs.Prelude.{◌≡◌};
+ghost use Rattle.std.specs.Option.{option_map};
+ghost use Rattle.groupcalc.specs.Queries.{asked_in, at_end, first_other, number_then, pair_then, returned, unblanked};
+
+use elements::element::Pair;
+use text::decimal::decimal;
+use text::fields::cut;
 
 /// What a line asks: of which group, over which modulus, about which two elements.
 #[derive(Clone, Copy)]
 pub struct Query {
     pub group: u32,
     pub modulus: u32,
-    pub x1: u32,
-    pub y1: u32,
-    pub x2: u32,
-    pub y2: u32,
+    pub first: Pair,
+    pub second: Pair,
 }
 
-/// The numbers of a line as far as it is read.
-#[derive(Drop)]
-pub struct LineReader {
-    numbers: [u32; 6],
-    count: usize,
-    digits: Option<u32>,
-    readable: bool,
-}
-
-impl LineReader {
-    /// A reader at the start of a line.
-    pub fn new() -> LineReader {
-        LineReader {
-            numbers: [0; 6],
-            count: 0,
-            digits: None,
-            readable: true,
-        }
-    }
-
-    /// Reads one byte of the line: a digit, a space between numbers, or what makes the line
-    /// unreadable.
-    pub fn take(&mut self, byte: u8) {
-        match byte {
-            b'0'..=b'9' => self.take_digit(byte - b'0'),
-            b' ' => self.end_number(),
-            _ => self.readable = false,
-        }
-    }
-
-    /// Ends the line and starts the next: what the line asks, or `None` if it is not six decimal
-    /// numbers of at most 32 bits.
-    pub fn end(&mut self) -> Option<Query> {
-        self.end_number();
-        let [group, modulus, x1, y1, x2, y2] = self.numbers;
-        let whole = self.readable && self.count == 6;
-        *self = LineReader::new();
-        if !whole {
-            return None;
-        }
-        Some(Query {
+impl Query {
+    /// What a line asks, or `None` if it is not six decimal numbers of at most 32 bits, with blanks
+    /// between them.
+    pub fn read(line: &[u8]) -> Option<Query>
+        ensures { result ≡ asked_in line.now }
+    {
+        let (group, rest) = number_then(line)?;
+        let (modulus, rest) = number_then(rest)?;
+        let (first, rest) = pair_then(rest)?;
+        let (second, rest) = pair_then(rest)?;
+        let query = Query {
             group,
             modulus,
-            x1,
-            y1,
-            x2,
-            y2,
-        })
-    }
-
-    /// Reads a digit, or finds that the number does not fit in 32 bits.
-    fn take_digit(&mut self, digit: u8) {
-        let number = u64::from(self.digits.unwrap_or(0)) * 10 + u64::from(digit);
-        match u32::try_from(number) {
-            Ok(number) => self.digits = Some(number),
-            Err(_) => self.readable = false,
-        }
-    }
-
-    /// Keeps the number that ends here, if there is one.
-    fn end_number(&mut self) {
-        let Some(number) = self.digits else {
-            return;
+            first,
+            second,
         };
-        self.digits = None;
-        if self.count < 6 {
-            self.numbers[self.count] = number;
-            self.count += 1;
-        } else {
-            self.readable = false;
-        }
+        at_end(rest, query)
     }
+}
+
+/// The query, if nothing but blanks comes behind it.
+fn at_end(rest: &[u8], query: Query) -> Option<Query>
+    ensures { result ≡ at_end (unblanked rest.now) query }
+{
+    match unblanked(rest) {
+        [] => Some(query),
+        _ => None,
+    }
+}
+
+/// Two numbers, and what comes behind them.
+fn pair_then<'a>(text: &'a [u8]) -> Option<(Pair, &'a [u8])>
+    ensures { option_map returned result ≡ pair_then text.now }
+{
+    let (x, rest) = number_then(text)?;
+    let (y, rest) = number_then(rest)?;
+    Some((Pair { x, y }, rest))
+}
+
+/// The number that a text begins with behind any blanks, and what comes behind it.
+fn number_then<'a>(text: &'a [u8]) -> Option<(u32, &'a [u8])>
+    ensures { option_map returned result ≡ number_then text.now }
+{
+    let (digits, rest) = cut(unblanked(text), b' ');
+    Some((decimal(digits)?, rest.unwrap_or(&[])))
+}
+
+/// A text without the blanks that it begins with.
+fn unblanked<'a>(text: &'a [u8]) -> &'a [u8]
+    ensures { result.now ≡ unblanked text.now }
+{
+    match first_other(text) {
+        Some(i) => &text[i..],
+        None => &[],
+    }
+}
+
+/// Where the first byte stands that is no blank, if there is one.
+fn first_other(text: &[u8]) -> Option<usize>
+    ensures { result ≡ first_other text.now }
+{
+    text.iter().position(|byte| *byte != b' ')
 }

@@ -1,7 +1,8 @@
 -- The clock: the points of the unit circle x² + y² = 1 modulo n, added as angles from (0, 1), and what a device of it means. Assumes nothing.
 use Rattle.std.specs.Prelude.{ℕ, ◌+◌, ◌-◌, ◌*◌, ◌%◌, Bool, ◌&&◌, [], ◌∷◌, ◌==◌, nat_lt}
-use Rattle.groups.specs.declared.clock.Clock.{Clock}
+use Rattle.groups.specs.declared.clock.ClockArithmetic.{ClockArithmetic}
 use Rattle.groups.specs.declared.clock.ClockPoint.{ClockPoint}
+use Rattle.groups.specs.declared.counted.Counted.{Counted}
 use Rattle.groups.specs.declared.tally.Tally.{Tally}
 use Rattle.groups.specs.Groups.{Group}
 use Rattle.groups.specs.Residues.{minus}
@@ -33,9 +34,9 @@ clock n = record {
 }
 
 -- the group of a device of the clock
-abbrev pub group_of : Clock → Group ClockPoint
-group_of s = clock s.modulus
+abbrev pub group_of : Counted ClockArithmetic → Group ClockPoint
+group_of s = clock s.arithmetic.modulus.value
 
 -- what a device of the clock has counted
-abbrev pub tally_of : Clock → Tally
+abbrev pub tally_of : Counted ClockArithmetic → Tally
 tally_of s = s.tally

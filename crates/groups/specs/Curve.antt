@@ -1,6 +1,7 @@
 -- The points of y² = x³ + x + 6 modulo 11 and a point at infinity, added by the affine rules, and what a device of the curve means. Assumes nothing.
 use Rattle.std.specs.Prelude.{ℕ, ◌+◌, ◌-◌, ◌*◌, ◌%◌, ◌^◌, Bool, true, cond, ◌&&◌, List, [], ◌∷◌, ◌==◌, nat_lt}
-use Rattle.groups.specs.declared.curve.Curve.{Curve}
+use Rattle.groups.specs.declared.counted.Counted.{Counted}
+use Rattle.groups.specs.declared.curve.CurveArithmetic.{CurveArithmetic}
 use Rattle.groups.specs.declared.curve.CurvePoint.{CurvePoint}
 use Rattle.groups.specs.declared.curve.CurvePoint.TheVariants.{Infinity, Affine}
 use Rattle.groups.specs.declared.tally.Tally.{Tally}
@@ -69,9 +70,9 @@ abbrev pub curve_points : List CurvePoint
 curve_points = Infinity ∷ Affine 2 4 ∷ Affine 2 7 ∷ Affine 3 5 ∷ Affine 3 6 ∷ Affine 5 2 ∷ Affine 5 9 ∷ Affine 7 2 ∷ Affine 7 9 ∷ Affine 8 3 ∷ Affine 8 8 ∷ Affine 10 2 ∷ Affine 10 9 ∷ []
 
 -- the group of a device of the curve
-abbrev pub group_of : Curve → Group CurvePoint
+abbrev pub group_of : Counted CurveArithmetic → Group CurvePoint
 group_of s = curve
 
 -- what a device of the curve has counted
-abbrev pub tally_of : Curve → Tally
+abbrev pub tally_of : Counted CurveArithmetic → Tally
 tally_of s = s.tally

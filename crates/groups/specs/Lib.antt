@@ -1,6 +1,7 @@
 pub mod Tally
 pub mod Groups
 pub mod SetUp
+pub mod Moduli
 pub mod Residues
 pub mod Sums
 pub mod Clock

@@ -1,6 +1,7 @@
 -- The numbers below n, added modulo n, and what a device of sums means. Assumes nothing.
 use Rattle.std.specs.Prelude.{ℕ, ◌+◌, ◌-◌, ◌%◌, [], ◌∷◌, nat_lt}
-use Rattle.groups.specs.declared.sums.Sums.{Sums}
+use Rattle.groups.specs.declared.counted.Counted.{Counted}
+use Rattle.groups.specs.declared.sums.SumArithmetic.{SumArithmetic}
 use Rattle.groups.specs.declared.tally.Tally.{Tally}
 use Rattle.groups.specs.Groups.{Group}
 
@@ -16,9 +17,9 @@ sums n = record {
 }
 
 -- the group of a device of sums
-abbrev pub group_of : Sums → Group ℕ
-group_of s = sums s.modulus
+abbrev pub group_of : Counted SumArithmetic → Group ℕ
+group_of s = sums s.arithmetic.modulus.value
 
 -- what a device of sums has counted
-abbrev pub tally_of : Sums → Tally
+abbrev pub tally_of : Counted SumArithmetic → Tally
 tally_of s = s.tally

@@ -1,5 +1,5 @@
--- The tally at set-up, and after each operation that is counted. Assumes nothing.
-use Rattle.std.specs.Prelude.{◌+◌, ◌*◌, ◌%◌, ◌^◌}
+-- The tally at set-up, and after each operation that is counted, and its text. Assumes nothing.
+use Rattle.std.specs.Prelude.{ℕ, ◌+◌, ◌*◌, ◌%◌, ◌^◌, List, ◌++◌, codes, decimal}
 use Rattle.groups.specs.declared.tally.Tally.{Tally}
 
 -- nothing is counted yet
@@ -13,3 +13,7 @@ one_addition t = record { doublings = t.doublings; additions = (t.additions + 1)
 -- a doubling: one more of them modulo 2^64, and the trace is shifted left by one with 0 lowest
 abbrev pub one_doubling : Tally → Tally
 one_doubling t = record { doublings = (t.doublings + 1) % 2 ^ 64; additions = t.additions; trace = (2 * t.trace) % 2 ^ 64 }
+
+-- doublings, additions and trace in decimal, with single spaces between them
+abbrev pub tally_text : Tally → List ℕ
+tally_text t = decimal t.doublings ++ codes " " ++ decimal t.additions ++ codes " " ++ decimal t.trace

@@ -3,6 +3,7 @@
 #![tactic(auto)]
 
 pub mod clock;
+mod counted;
 pub mod curve;
 pub mod device;
 mod modulus;

@@ -31,6 +31,8 @@ pub fn worked_multiples() -> WorkedMultiples
 }
 
 /// The multiples as the table has them.
+// A function of its own: as one function the search for its proof broke off, since each multiple is
+// computed anew wherever it looks at a clause.
 fn table() -> WorkedMultiples
     ensures { result ≡ written }
 {

@@ -1,9 +1,11 @@
 //! What a device has counted.
-ghost use Rattle.std.specs.Prelude.{◌≡◌};
-ghost use Rattle.groups.specs.Tally.{one_addition, one_doubling, zero_tally};
+ghost use Rattle.std.specs.Prelude.{◌≡◌, Some};
+ghost use Rattle.groups.specs.Tally.{one_addition, one_doubling, tally_text, zero_tally};
+
+use std::fmt;
 
 /// The operations that a device has done since its set-up. The other calls are not counted.
-#[derive(Clone, Copy, PartialEq, Eq, Debug)]
+#[derive(Clone, Copy, PartialEq, Eq, Debug, Default)]
 pub struct Tally {
     /// How many doublings, modulo 2^64.
     pub doublings: u64,
@@ -18,11 +20,7 @@ impl Tally {
     pub fn zero() -> Tally
         ensures { result ≡ zero_tally }
     {
-        Tally {
-            doublings: 0,
-            additions: 0,
-            trace: 0,
-        }
+        Tally::default()
     }
 
     /// Counts one addition: raises `additions` and shifts a 1 into `trace`.
@@ -39,5 +37,19 @@ impl Tally {
     {
         self.doublings = self.doublings.wrapping_add(1);
         self.trace <<= 1;
+    }
+}
+
+impl fmt::Display for Tally {
+    ghost output = { λ tally. Some (tally_text tally) };
+
+    /// Doublings, additions and trace in decimal, with single spaces between them.
+    fn fmt<W: fmt::Write>(&self, f: &mut fmt::Formatter<W>) -> fmt::Result {
+        let Tally {
+            doublings,
+            additions,
+            trace,
+        } = *self;
+        write!(f, "{doublings} {additions} {trace}")
     }
 }

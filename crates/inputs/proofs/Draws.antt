@@ -1,16 +1,8 @@
 -- The first admitted draw.
-use Rattle.std.proofs.Common.{◌≡◌, ℕ, zero, suc, ◌+◌, ◌-◌, ◌*◌, ◌/◌, ◌%◌, ◌^◌, ◌<◌, ◌≤◌, Bool, true, false, cond, List, length, get_or, take, drop, Some, None, sym, refl, ap, ◌∙◌, subst, ap₂, div-mul-le_self, add-one, arith, lit<}
-use native.Mathlib.Nat.{div-eq_of_lt, add-mul-div_right, pow-le-pow_right}
+use Rattle.std.proofs.Common.{◌≡◌, ℕ, zero, suc, ◌+◌, ◌-◌, ◌*◌, ◌/◌, ◌%◌, ◌^◌, ◌<◌, ◌≤◌, Bool, true, false, cond, List, length, take, drop, Some, None, sym, refl, ap, ◌∙◌, subst, ap₂, div-mul-le_self, add-one, arith}
+use native.Mathlib.Nat.{div-eq_of_lt, add-mul-div_right}
 use Rattle.std.proofs.lemmas.Nat.{le-div, one_shl}
-use Rattle.std.proofs.lemmas.List.{drop_more}
 use Rattle.inputs.specs.Draws.{lowest_first, draw_bytes, draw_at, behind, draws_left, Found, first_of, First}
-
--- one byte more, from the top
-pub little_more : (bs : List ℕ) (p : ℕ) → p < length bs → lowest_first (drop p bs) ≡ lowest_first (drop (p + 1) bs) * 256 + get_or bs p 0
-little_more bs p h = ap lowest_first (drop_more bs p 0 h) ∙ omega arith
-
-pub three_bytes : (v k : ℕ) → k ≤ 3 → v < 256 ^ k → v < 16777216
-three_bytes v k h l = omega (arith, pow-le-pow_right {n = 256} (lit< tt) {i = k} {j = 3} h)
 
 pub draw_bytes_lem : (b : ℕ) → 1 ≤ b → b ≤ 30 → (1 ≤ draw_bytes b) × (draw_bytes b ≤ 4)
 draw_bytes_lem b l h = (omega arith, omega arith)

@@ -5,12 +5,6 @@ use native.Mathlib.Nat.{zero-div, add-mul-div_right, mul-add-mod_self_right}
 use Rattle.std.proofs.lemmas.Nat.{shr-shr}
 use Rattle.inputs.specs.Keys.{scalar, bits_at, Highest}
 
-pub past : (ws : List ℕ) (j : ℕ) → length ws ≤ j → get_or ws j 0 ≡ 0
-past [] zero h = refl
-past [] (suc j) h = refl
-past (w ∷ ws) zero h = elim h [ ]
-past (w ∷ ws) (suc j) h = past ws j (omega arith)
-
 front : (ws : List ℕ) (j : ℕ) → scalar (drop j ws) ≡ scalar (drop (suc j) ws) * 2 ^ 32 + get_or ws j 0
 front [] zero = refl
 front [] (suc j) = refl
@@ -73,6 +67,16 @@ scalar_below (w ∷ ws) (suc i) h =
     let e : 32 * suc i ≡ 32 * i + 32 = omega arith in
     let p : 2 ^ (32 * suc i) ≡ 2 ^ (32 * i) * 2 ^ 32 = ap (λ (n : ℕ). 2 ^ n) e ∙ pow-add 2 (32 * i) 32 in
     omega (arith, scalar_below ws i (λ j. h (suc j)), h 0)
+
+-- where all words are 0, and where all above one are
+pub no_words : (ws : List ℕ) → ((j : ℕ) → j < length ws → get_or ws j 0 ≡ 0) → scalar ws ≡ 0
+no_words [] h = refl
+no_words (w ∷ ws) h = let e = no_words ws (λ j p. h (suc j) (omega arith)) in let f = h 0 (omega arith) in omega arith
+
+pub none_above : (ws : List ℕ) (i : ℕ) → ((j : ℕ) → i < j → j < length ws → get_or ws j 0 ≡ 0) → scalar (take (suc i) ws) ≡ scalar ws
+none_above [] i h = refl
+none_above (w ∷ ws) zero h = let e = no_words ws (λ j p. h (suc j) (omega arith) (omega arith)) in omega arith
+none_above (w ∷ ws) (suc i) h = ap (λ (n : ℕ). n * 2 ^ 32 + w) (none_above ws i (λ j p q. h (suc j) (omega arith) (omega arith)))
 
 shifted : (i j P : ℕ) → P ≡ 2 ^ i → 2 ^ (i + j) ≡ 2 ^ j * P
 shifted i j P e = pow-add 2 i j ∙ mul_comm (2 ^ i) (2 ^ j) ∙ ap (λ (n : ℕ). 2 ^ j * n) (sym e)

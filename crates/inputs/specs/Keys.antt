@@ -1,5 +1,5 @@
 -- Keys: the number in words of 32 bits, lowest first, and which keys the sizes refuse.
-use Rattle.std.specs.Prelude.{◌≡◌, ℕ, zero, suc, ◌+◌, ◌*◌, ◌/◌, ◌%◌, ◌^◌, ◌<◌, ◌≤◌, cond, List, [], ◌∷◌, length, Some, None, Option, nat_le}
+use Rattle.std.specs.Prelude.{◌≡◌, ℕ, zero, suc, ◌+◌, ◌*◌, ◌/◌, ◌%◌, ◌^◌, ◌<◌, ◌≤◌, cond, List, [], ◌∷◌, length, Some, None, Option, nat_le, slice_index}
 use Rattle.common.specs.declared.refusal.Refusal.{Refusal}
 use Rattle.common.specs.declared.refusal.Refusal.TheVariants.{KeyLength, KeyTooLarge}
 use Rattle.inputs.specs.declared.sizes.Sizes.{Sizes}
@@ -23,6 +23,11 @@ highest_bit (suc n) x = cond (nat_le (2 ^ n) x) n (highest_bit n x)
 abbrev pub Highest : ℕ → Option ℕ → Type 0
 Highest x None = x ≡ 0
 Highest x (Some h) = (2 ^ h ≤ x) × (x < 2 ^ suc h)
+
+-- no word is above 0, or the word at i is and none behind it
+abbrev pub TopWord : List ℕ → Option ℕ → Type 0
+TopWord ws None = (j : ℕ) → j < length ws → slice_index ws j ≡ 0
+TopWord ws (Some i) = (i < length ws) × (0 < slice_index ws i) × ((j : ℕ) → i < j → j < length ws → slice_index ws j ≡ 0)
 
 -- the refusal of a key, or none: its words are counted first, then its bits
 abbrev pub key_refusal : Sizes → List ℕ → Option Refusal

@@ -1,9 +1,10 @@
 -- Sign rules: what one answers, the laws that each keeps, and the three rules by their table.
-use Rattle.std.specs.Prelude.{◌≡◌, ℕ, ◌+◌, ◌-◌, ◌^◌, ◌<◌, Bool, true, cond, ℤ, pos, negsuc, ◌+ℤ◌, ◌-ℤ◌, ◌*ℤ◌, neg_ℤ, ◌≤ℤ◌, ◌<ℤ◌, Some, None, Option, ◌==◌, int_div, int_lt, nat_lt}
+use Rattle.std.specs.Prelude.{◌≡◌, ℕ, ◌+◌, ◌-◌, ◌^◌, ◌<◌, Bool, true, cond, ℤ, pos, negsuc, ◌+ℤ◌, ◌-ℤ◌, ◌*ℤ◌, neg_ℤ, ◌≤ℤ◌, ◌<ℤ◌, Some, None, Ok, Err, Option, Result, ◌==◌, int_div, int_lt, nat_lt}
 use Rattle.std.specs.Int.Signed.{le_z}
 use Rattle.inputs.specs.declared.sign.Choice.{Choice}
 use Rattle.inputs.specs.declared.sign.Sign.TheVariants.{Plus, Minus}
 use Rattle.inputs.specs.declared.sign.Carry.TheVariants.{Down, Zero, Up}
+use Rattle.inputs.specs.declared.window_rule.UnknownRule.{UnknownRule}
 use Rattle.inputs.specs.declared.window_rule.WindowRule.{WindowRule}
 use Rattle.inputs.specs.declared.window_rule.WindowRule.TheVariants.{Shifted, Centered, Nonzero}
 use Rattle.inputs.specs.Signs.{carry_value, signed}
@@ -58,6 +59,11 @@ rule_number Nonzero = 3
 -- the rule of a number, if there is one
 abbrev pub numbered : ℕ → Option WindowRule
 numbered n = cond (n == 1) (Some Shifted) (cond (n == 2) (Some Centered) (cond (n == 3) (Some Nonzero) None))
+
+-- what a number is read as: its rule, or the number itself where no rule has it
+abbrev pub Numbered : ℕ → Result WindowRule UnknownRule → Type 0
+Numbered n (Ok rule) = numbered n ≡ Some rule
+Numbered n (Err e) = (numbered n ≡ None) × (e.0 ≡ n)
 
 -- the table of the three rules, by half and a number j: at most -half; -half + 1 to -1; 0 to half - 1; at least half
 abbrev pub table : ℕ → ℤ → Choice

@@ -1,6 +1,6 @@
 //! Keys: words of 32 bits, lowest first, lent by the caller.
 ghost use Rattle.std.specs.Prelude.{◌≡◌, ◌*◌, ◌/◌, ◌%◌, ◌^◌, ◌≤◌, length, slice_index};
-ghost use Rattle.inputs.specs.Keys.{scalar, half, bits_at, key_refusal, Highest};
+ghost use Rattle.inputs.specs.Keys.{scalar, half, bits_at, key_refusal, Highest, TopWord};
 ghost use Rattle.inputs.specs.Tests.{Tested};
 
 use crate::sizes::Sizes;
@@ -44,21 +44,22 @@ fn highest_bit(key: &[u32]) -> Option<usize>
     requires { length key.now ≤ 16 }
     ensures { Highest (scalar key.now) result }
 {
-    let mut highest = None;
-    for i in 0..key.len() {
-        let word = word_at(key, i);
-        if word != 0 {
-            highest = Some(32 * i + 31 - word.leading_zeros() as usize);
-        }
-    }
-    highest
+    let i = top_word(key)?;
+    Some(32 * i + 31 - key[i].leading_zeros() as usize)
+}
+
+// The place of the highest word that is not 0.
+fn top_word(key: &[u32]) -> Option<usize>
+    ensures { TopWord key.now result }
+{
+    key.iter().rposition(|word| *word != 0)
 }
 
 // The word at i, or 0 past the end.
 fn word_at(key: &[u32], i: usize) -> u32
     ensures { result ≡ slice_index key.now i }
 {
-    if i < key.len() { key[i] } else { 0 }
+    key.get(i).copied().unwrap_or(0)
 }
 
 // The `width` bits of the key from bit `from` up, which stand in at most two words.

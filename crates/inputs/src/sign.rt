@@ -5,8 +5,8 @@ ghost use Rattle.inputs.specs.Signs.{sign_value, carry_value};
 /// A window's sign.
 #[derive(Clone, Copy, PartialEq, Eq, Debug)]
 pub enum Sign {
-    Plus,
-    Minus,
+    Plus = 1,
+    Minus = -1,
 }
 
 impl Sign {
@@ -14,19 +14,16 @@ impl Sign {
     pub fn value(self) -> i32
         ensures { result ≡ sign_value self }
     {
-        match self {
-            Sign::Plus => 1,
-            Sign::Minus => -1,
-        }
+        self as i32
     }
 }
 
 /// What a window adds to the window above it.
 #[derive(Clone, Copy, PartialEq, Eq, Debug)]
 pub enum Carry {
-    Down,
-    Zero,
-    Up,
+    Down = -1,
+    Zero = 0,
+    Up = 1,
 }
 
 impl Carry {
@@ -34,11 +31,7 @@ impl Carry {
     pub fn value(self) -> i32
         ensures { result ≡ carry_value self }
     {
-        match self {
-            Carry::Down => -1,
-            Carry::Zero => 0,
-            Carry::Up => 1,
-        }
+        self as i32
     }
 }
 

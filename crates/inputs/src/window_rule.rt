@@ -1,21 +1,23 @@
 //! The three sign rules of the method.
 ghost use Rattle.std.specs.Prelude.{◌≡◌, ◌+◌, ◌-◌, ◌^◌, pos, ◌-ℤ◌};
-ghost use Rattle.inputs.specs.Rules.{rule_number, numbered, table, shift, rule_of};
+ghost use Rattle.inputs.specs.Rules.{Numbered, rule_number, table, shift, rule_of};
 ghost use Rattle.inputs.specs.Tables;
 
 use crate::rule::SignRule;
 use crate::sign::{Carry, Choice, Sign};
 use crate::sizes::Sizes;
+use std::error::Error;
+use std::fmt;
 
 /// One of the three rules, for callers that choose at run time.
 #[derive(Clone, Copy, PartialEq, Eq, Debug)]
 pub enum WindowRule {
     /// Rule 1 looks at the window's number less the draw.
-    Shifted,
+    Shifted = 1,
     /// Rule 2 looks at the window's number itself.
-    Centered,
+    Centered = 2,
     /// Rule 3 is rule 2 for draws above 0, which keeps its digits one closer.
-    Nonzero,
+    Nonzero = 3,
 }
 
 impl WindowRule {
@@ -23,23 +25,7 @@ impl WindowRule {
     pub fn number(self) -> u32
         ensures { result ≡ rule_number self }
     {
-        match self {
-            WindowRule::Shifted => 1,
-            WindowRule::Centered => 2,
-            WindowRule::Nonzero => 3,
-        }
-    }
-
-    /// The rule of a number, or `None` where it is not 1 to 3.
-    pub fn from_number(number: u32) -> Option<WindowRule>
-        ensures { result ≡ numbered number }
-    {
-        match number {
-            1 => Some(WindowRule::Shifted),
-            2 => Some(WindowRule::Centered),
-            3 => Some(WindowRule::Nonzero),
-            _ => None,
-        }
+        self as u32
     }
 
     // What the rule takes from a window's number before it looks into the table.
@@ -48,11 +34,38 @@ impl WindowRule {
     {
         match self {
             WindowRule::Shifted => s,
-            WindowRule::Centered => 0,
-            WindowRule::Nonzero => 0,
+            WindowRule::Centered | WindowRule::Nonzero => 0,
         }
     }
 }
+
+/// A number that no rule has.
+#[derive(Clone, Copy, PartialEq, Eq, Debug)]
+pub struct UnknownRule(pub u32);
+
+impl TryFrom<u32> for WindowRule {
+    type Error = UnknownRule;
+
+    // The rule of the number, or the number itself where it is not 1 to 3.
+    ghost try_from_gives = { Numbered };
+
+    fn try_from(number: u32) -> Result<WindowRule, UnknownRule> {
+        match number {
+            1 => Ok(WindowRule::Shifted),
+            2 => Ok(WindowRule::Centered),
+            3 => Ok(WindowRule::Nonzero),
+            _ => Err(UnknownRule(number)),
+        }
+    }
+}
+
+impl fmt::Display for UnknownRule {
+    fn fmt<W: fmt::Write>(&self, f: &mut fmt::Formatter<W>) -> fmt::Result {
+        write!(f, "no rule has the number {}", self.0)
+    }
+}
+
+impl Error for UnknownRule {}
 
 impl SignRule for WindowRule {
     ghost rule = { rule_of };
@@ -62,24 +75,21 @@ impl SignRule for WindowRule {
     fn lo(&self, _sizes: Sizes) -> i32 {
         match *self {
             WindowRule::Shifted => -2,
-            WindowRule::Centered => -1,
-            WindowRule::Nonzero => -1,
+            WindowRule::Centered | WindowRule::Nonzero => -1,
         }
     }
 
     fn hi(&self, sizes: Sizes) -> i32 {
         let middle = 1i32 << (sizes.window_width() - 1);
         match *self {
-            WindowRule::Shifted => middle + 1,
-            WindowRule::Centered => middle + 1,
+            WindowRule::Shifted | WindowRule::Centered => middle + 1,
             WindowRule::Nonzero => middle,
         }
     }
 
     fn admits(&self, _sizes: Sizes, s: u32) -> bool {
         match *self {
-            WindowRule::Shifted => true,
-            WindowRule::Centered => true,
+            WindowRule::Shifted | WindowRule::Centered => true,
             WindowRule::Nonzero => s > 0,
         }
     }

@@ -1,11 +1,6 @@
 -- The text of a refusal, and lines of a text. Assumes nothing.
-use Rattle.std.specs.Prelude.{ℕ, ◌-◌, cond, List, [], ◌++◌, length, take, Some, None, codes, decimal, Option, ◌==◌, slice_index}
-use Rattle.common.specs.declared.refusal.Refusal.{Refusal}
-use Rattle.common.specs.Refusals.{number, layer, place_of}
-
--- "no", the number, the layer and the place
-abbrev pub refusal_text : Refusal → List ℕ
-refusal_text e = codes "no " ++ decimal (number e) ++ codes " " ++ decimal (layer e) ++ codes " " ++ decimal (place_of e)
+use Rattle.std.specs.Prelude.{ℕ, ◌-◌, cond, List, [], length, take, Some, None, Option, ◌==◌, slice_index}
+pub use Rattle.common.specs.Refusals.{refusal_text}
 
 -- what comes behind a line, nothing where it is the last one
 abbrev pub or_none : Option (List ℕ) → List ℕ

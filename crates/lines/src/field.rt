@@ -13,13 +13,7 @@ pub fn number_then<'a>(text: &'a [u8]) -> Option<(u32, &'a [u8])>
     ensures { option_map paired result ≡ number_then text.now }
 {
     let (front, rest) = cut(text, b' ');
-    let Some(rest) = rest else {
-        return None;
-    };
-    let Some(number) = decimal(front) else {
-        return None;
-    };
-    Some((number, rest))
+    Some((decimal(front)?, rest?))
 }
 
 /// The words of a key: one or more hexadecimal digits. Answers `Err` only where memory fails.

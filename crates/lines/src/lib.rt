@@ -3,4 +3,5 @@
 
 pub mod field;
 pub mod line;
+pub mod program;
 pub mod summary;

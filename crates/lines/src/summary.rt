@@ -60,25 +60,12 @@ impl Summary {
     pub fn write(self, words: &[u8], out: &mut Vec<u8>) -> Result<(), AllocError>
         ensures { OnOk result (out.new.items ≡ out.old.items ++ counts_text words.now self.done self.refused self.unreadable) }
     {
-        write_counts(words, out, self.done, self.refused, self.unreadable)
+        // Piece by piece, since the words may be any bytes, which no format takes.
+        push_number(out, self.done)?;
+        out.extend_from_slice(words)?;
+        push_number(out, self.refused)?;
+        out.extend_from_slice(b" refused, ")?;
+        push_number(out, self.unreadable)?;
+        out.extend_from_slice(b" unreadable\n")
     }
-}
-
-// Appends the counts in words.
-fn write_counts(
-    words: &[u8],
-    out: &mut Vec<u8>,
-    done: u64,
-    refused: u64,
-    unreadable: u64,
-) -> Result<(), AllocError>
-    ensures { OnOk result (out.new.items ≡ out.old.items ++ counts_text words.now done refused unreadable) }
-{
-    push_number(out, done)?;
-    out.extend_from_slice(words)?;
-    push_number(out, refused)?;
-    out.extend_from_slice(b" refused, ")?;
-    push_number(out, unreadable)?;
-    out.extend_from_slice(b" unreadable\n")?;
-    Ok(())
 }

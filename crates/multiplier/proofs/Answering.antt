@@ -1,6 +1,9 @@
 -- From the tests and the value of a call to what its answer means. Assumes nothing.
-use Rattle.std.proofs.Common.{◌≡◌, ℕ, zero, suc, ◌^◌, ◌<◌, ◌≤◌, Bool, true, false, cond, ltb, List, ◌++◌, drop, replicate, Some, None, Ok, Err, Option, sym, refl, ap, ◌∙◌, subst, ap₂, mod-lt, arith, pow_pos}
+use Rattle.std.proofs.Common.{◌≡◌, ℕ, zero, suc, ◌-◌, ◌^◌, ◌<◌, ◌≤◌, Bool, true, false, cond, ltb, List, ◌++◌, drop, replicate, Some, None, Ok, Err, Option, sym, refl, ap, ◌∙◌, subst, ap₂, mod-lt, zero-add, arith, pow_pos}
+use borrow.Rule.Slice.PartMut.{put_mid}
 use Rattle.std.proofs.lemmas.Bool.{ltb-false}
+use Rattle.std.proofs.lemmas.List.{length-replicate, take_all}
+use Rattle.std.proofs.lemmas.Slice.{put_mid-paste}
 use Rattle.common.specs.declared.refusal.Refusal.{Refusal}
 use Rattle.common.specs.declared.refusal.Refusal.TheVariants.{TableTooShort}
 use Rattle.groups.specs.Groups.{Group, Lawful}
@@ -68,18 +71,28 @@ module _ {E : Type 0} (g : Group E) (law : Lawful g) (c : Call E) (rule-law : Ru
   pub answered_is : Answered g c
   answered_is = record { answer = right; after = goes; multiple = accepts }
 
--- the tests before the draws, and then the draws
-pub refused_early : (a b m d : Option Refusal) (e : Refusal) → or_else a (or_else b m) ≡ Some e → or_else a (or_else b (or_else m d)) ≡ Some e
-refused_early (Some x) b m d e h = h
-refused_early None (Some x) m d e h = h
-refused_early None None (Some x) d e h = h
-refused_early None None None d e h = absurd (some_none (sym h))
+refused_first : (a b m d : Option Refusal) (e : Refusal) → or_else a (or_else b m) ≡ Some e → or_else a (or_else b (or_else m d)) ≡ Some e
+refused_first (Some x) b m d e h = h
+refused_first None (Some x) m d e h = h
+refused_first None None (Some x) d e h = h
+refused_first None None None d e h = absurd (some_none (sym h))
 
-pub then_draws : (a b m d : Option Refusal) → or_else a (or_else b m) ≡ None → or_else a (or_else b (or_else m d)) ≡ d
-then_draws (Some x) b m d h = absurd (some_none h)
-then_draws None (Some x) m d h = absurd (some_none h)
-then_draws None None (Some x) d h = absurd (some_none h)
-then_draws None None None d h = refl
+passed_first : (a b m d : Option Refusal) → or_else a (or_else b m) ≡ None → or_else a (or_else b (or_else m d)) ≡ d
+passed_first (Some x) b m d h = absurd (some_none h)
+passed_first None (Some x) m d h = absurd (some_none h)
+passed_first None None (Some x) d h = absurd (some_none h)
+passed_first None None None d h = refl
+
+-- the tests before the draws, and then the draws
+module _ {E : Type 0} (g : Group E) (c : Call E) where
+  abbrev tests : Option Refusal
+  tests = or_else (check_refusal c.sizes c.key c.words) (or_else (table_refusal c.rule c.sizes c.cells) (base_refusal (g.member c.base)))
+
+  pub refused_early : (e : Refusal) → tests ≡ Some e → refusal_of g c ≡ Some e
+  refused_early e h = refused_first (check_refusal c.sizes c.key c.words) (table_refusal c.rule c.sizes c.cells) (base_refusal (g.member c.base)) (draws_refusal c.mark (draw_of c)) e h
+
+  pub then_draws : tests ≡ None → refusal_of g c ≡ draws_refusal c.mark (draw_of c)
+  then_draws h = passed_first (check_refusal c.sizes c.key c.words) (table_refusal c.rule c.sizes c.cells) (base_refusal (g.member c.base)) (draws_refusal c.mark (draw_of c)) h
 
 -- a refused call on a device, and an accepted one
 module _ {S E : Type 0} (group : S → Group E) (tally : S → Tally) (s : S) (law : Lawful (group s)) (c : Call E) (rule-law : Rule-lawful c.rule) where
@@ -105,16 +118,25 @@ module _ {E : Type 0} (g : Group E) (c : Call E) (cells : List E) where
   pub cells_refused : (e : Refusal) → refusal_of g c ≡ Some e → cells ≡ cells_after g c cells
   cells_refused e refused = sym (ap (λ (o : Option Refusal). unless_refused o (replicate (cells_needed c.rule c.sizes) g.neutral ++ drop (cells_needed c.rule c.sizes) cells) cells) refused)
 
-  pub cells_accepted : (wiped rest : List E) → refusal_of g c ≡ None → wiped ≡ replicate (cells_needed c.rule c.sizes) g.neutral → rest ≡ drop (cells_needed c.rule c.sizes) cells → wiped ++ rest ≡ cells_after g c cells
-  cells_accepted wiped rest passed p q =
-      ap₂ ◌++◌ p q ∙ sym (ap (λ (o : Option Refusal). unless_refused o (replicate (cells_needed c.rule c.sizes) g.neutral ++ drop (cells_needed c.rule c.sizes) cells) cells) passed)
+  -- the used cells stand in a part of the cells, which came back
+  pub cells_accepted : (wiped : List E) (used : ℕ) → refusal_of g c ≡ None → used ≡ cells_needed c.rule c.sizes → wiped ≡ replicate (cells_needed c.rule c.sizes) g.neutral → put_mid 0 (used - 0) cells wiped ≡ cells_after g c cells
+  cells_accepted wiped used passed same p =
+      let n : ℕ = cells_needed c.rule c.sizes in
+      let ws : List E = replicate n g.neutral in
+      put_mid-paste 0 (used - 0) cells wiped ws n p (omega (arith, same)) (sym (length-replicate n g.neutral))
+      ∙ ap₂ (λ (l : List E) (m : ℕ). l ++ drop m cells) (take_all n ws (omega (arith, length-replicate n g.neutral))) (zero-add n)
+      ∙ sym (ap (λ (o : Option Refusal). unless_refused o (replicate n g.neutral ++ drop n cells) cells) passed)
 
-pub table_passes : (R : Rule) (z : Sizes) (n : ℕ) → table_refusal R z n ≡ None → cells_needed R z ≤ n
+table_passes : (R : Rule) (z : Sizes) (n : ℕ) → table_refusal R z n ≡ None → cells_needed R z ≤ n
 table_passes R z n p = ltb-false n (cells_needed R z) (by (ltb n (cells_needed R z)) p)
   where
     by : (t : Bool) → cond t (Some (TableTooShort n)) None ≡ None → t ≡ false
     by true e = absurd (some_none e)
     by false e = refl
+
+-- a call that passes its tests has cells enough
+pub room : (a b : Option Refusal) (R : Rule) (z : Sizes) (n : ℕ) → or_else a (or_else (table_refusal R z n) b) ≡ None → cells_needed R z ≤ n
+room a b R z n h = table_passes R z n (both_pass (table_refusal R z n) b (both_pass a _ h).1).0
 
 -- a draw that was found can be recoded
 pub draw_taken_here : (R : Rule) (z : Sizes) (key bytes : List ℕ) (n mark after : ℕ) (d : Draw) → check_refusal z key n ≡ None → first_draw R z bytes mark ≡ Some (record { value = d.value; after = after }) → d.width ≡ z.b → recode_refusal R z key n d ≡ None

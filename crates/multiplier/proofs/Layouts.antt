@@ -14,19 +14,6 @@ counts (pos l) hi top a b c d e = absurd (omega (arith, ints))
 counts (negsuc l) (pos h) top a b c d e = (omega (arith, ints), omega (arith, ints), omega arith)
 counts (negsuc l) (negsuc h) top a b c d e = absurd (omega (arith, ints))
 
--- the entries below and above the middle one: few, and together as many as from lo to hi
-pub limits_count : (R : Rule) (z : Sizes) → Lawful R →
-    (nat_abs (R.lo z.k z.b) ≤ 4) × (nat_abs (R.hi z.k z.b) ≤ 64) × (nat_abs (R.lo z.k z.b) + nat_abs (R.hi z.k z.b) ≡ nat_abs (R.hi z.k z.b -ℤ R.lo z.k z.b))
-limits_count R z L =
-    let k : ℕ = z.k in
-    let b : ℕ = z.b in
-    let w = widths z in
-    let most : 2 ^ k ≤ 2 ^ 6 = pow_mono z.k_most in
-    counts (R.lo k b) (R.hi k b) (2 ^ k) (L.lo_least k b w) (L.lo_most k b w) (L.hi_least k b w) (L.hi_most k b w) most
-
-pub half_most : (z : Sizes) → 2 ^ (z.k - 1) ≤ 2 ^ 5
-half_most z = let h : z.k - 1 ≤ 5 = omega (arith, z.k_most) in pow_mono h
-
 limits_are : (lo hi : ℤ) (down up : ℕ) → lo ≤ℤ negsuc 0 → pos 1 ≤ℤ hi → down ≡ nat_abs lo → up ≡ nat_abs hi → (neg_ℤ (pos down) ≡ lo) × (pos up ≡ hi)
 limits_are (pos l) hi down up a b d u = absurd (omega (arith, ints))
 limits_are (negsuc l) (negsuc h) down up a b d u = absurd (omega (arith, ints))

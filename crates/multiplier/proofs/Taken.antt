@@ -15,14 +15,6 @@ use Rattle.recoding.proofs.Loop.{decode_all}
 pub some_none : {X : Type 0} {x : X} → Some x ≡ None → ⊥
 some_none p = let z : ◌≡◌ {A = ℕ} 0 1 = cc in omega arith
 
--- a key that is not refused has a word
-pub key_some : (z : Sizes) (key : List ℕ) → key_refusal z key ≡ None → 1 ≤ length key
-key_some z key p = ltb-false (length key) 1 (by (ltb (length key) 1) (ltb 16 (length key)) (cond (leb (2 ^ key_bits z) (scalar key)) (Some (KeyTooLarge (highest_bit 512 (scalar key)))) None) p)
-  where
-    by : (few many : Bool) (rest : Option Refusal) → cond (few || many) (Some (KeyLength (length key))) rest ≡ None → few ≡ false
-    by true many rest e = absurd (some_none e)
-    by false many rest e = refl
-
 -- the words that a recoding wrote hold its digits
 pub digits_held : (z : Sizes) (ds : List Digit) (before after : List ℤ) → after ≡ map encoded ds ++ drop z.m before → length after ≡ length before → z.m ≤ length before → digits_in z after ≡ ds
 digits_held z ds before after e long enough =

@@ -1,56 +1,55 @@
 -- The cells of a table: how the steps fill them, and what a word reads there. Assumes nothing.
-use Rattle.std.specs.Prelude.{ℕ, zero, suc, ◌+◌, ◌-◌, ◌<◌, List, [], ◌∷◌, ℤ, pos, negsuc, ◌+ℤ◌, neg_ℤ, slice_index_or, slice_set, unsigned_abs}
+use Rattle.std.specs.Prelude.{[], ◌∷◌, ◌++◌, reverse, ℕ, zero, suc, ◌-◌, ◌<◌, List, map, ℤ, pos, negsuc, ◌+ℤ◌, neg_ℤ, slice_index_or, unsigned_abs}
 use Rattle.groups.specs.Groups.{Group, added, doubled, negated}
+use Rattle.inputs.specs.declared.sign.Sign.TheVariants.{Plus, Minus}
 use Rattle.inputs.specs.Signs.{signed}
+use Rattle.recoding.specs.declared.digit.Digit.{Digit}
 use Rattle.recoding.specs.Digits.{decoded}
 use Rattle.steps.specs.Corrections.{correction_windows}
-use Rattle.steps.specs.Operations.{chosen, gathered}
+use Rattle.steps.specs.Operations.{additions, chosen, gathered}
 use Rattle.steps.specs.Steps.{turned}
-use Rattle.multiplier.specs.declared.table.Part.{Part}
-use Rattle.multiplier.specs.declared.table.Part.TheVariants.{Windows, Correction}
 
-module _ {E : Type 0} (g : Group E) where
-  -- from the cell at `from` upward, count cells more, each the one before it and the step
-  abbrev pub filled_up : List E → (from count : ℕ) → (step : E) → List E
-  filled_up cells from zero step = cells
-  filled_up cells from (suc n) step = slice_set (filled_up cells from n step) (from + n + 1) (added g (slice_index_or (filled_up cells from n step) (from + n) g.neutral) step)
+-- a digit stands for itself
+abbrev pub itself : Digit → Digit
+itself d = d
 
-  -- and downward
-  abbrev pub filled_down : List E → (from count : ℕ) → (step : E) → List E
-  filled_down cells from zero step = cells
-  filled_down cells from (suc n) step = slice_set (filled_down cells from n step) (from - n - 1) (added g (slice_index_or (filled_down cells from n step) (from - n) g.neutral) step)
-
-  -- the part for the windows: sA where the entry for 0 stands, upward by unitA, downward by its negative
-  abbrev pub window_cells : List E → (down up : ℕ) → (unitA sA : E) → List E
-  window_cells cells down up unitA sA = filled_down (filled_up (slice_set cells down sA) down up unitA) down down (negated g unitA)
-
-  -- the part for the correction: neutral, the base, and upward by the base
-  abbrev pub small_cells : List E → (small count : ℕ) → (base : E) → List E
-  small_cells cells small count base = filled_up (slice_set (slice_set cells small g.neutral) (small + 1) base) (small + 1) count base
-
-  -- what a word reads in a part of the table: a digit its entry, turned by its sign; a window of the correction its entry, negated where it is below 0
-  abbrev pub read_word : List E → Part → ℤ → E
-  read_word cells (Windows middle) w =
-      turned g (decoded w).sign (slice_index_or cells (unsigned_abs (pos middle +ℤ signed (decoded w).sign (decoded w).value)) g.neutral)
-  read_word cells (Correction small) (pos n) = slice_index_or cells (small + n) g.neutral
-  read_word cells (Correction small) (negsuc n) = negated g (slice_index_or cells (small + suc n) g.neutral)
-
-  -- steps 5 to 7 by what the words read
-  abbrev pub evaluated : List E → (middle small k b : ℕ) → (base : E) → List ℤ → (correction : ℤ) → (bit : ℕ) → E
-  evaluated cells middle small k b base words c bit =
-      added g (doubled g (added g (gathered g k (read_word cells (Windows middle)) words) (gathered g k (read_word cells (Correction small)) (correction_windows k b c)))) (chosen g base bit)
-
--- the word's entry stands in a table of so many cells
-abbrev pub Reaches : (cells : ℕ) → Part → ℤ → Type 0
-Reaches cells (Windows middle) w = unsigned_abs (pos middle +ℤ signed (decoded w).sign (decoded w).value) < cells
-Reaches cells (Correction small) w = small + unsigned_abs w < cells
-
--- and so do those of all words
-abbrev pub AllReach : (cells : ℕ) → Part → List ℤ → Type 0
-AllReach cells part [] = Unit {0}
-AllReach cells part (w ∷ ws) = Reaches cells part w × AllReach cells part ws
+-- a window of a correction as a digit: itself, with its sign, so that its entry is that of its size
+abbrev pub window_digit : ℤ → Digit
+window_digit (pos n) = record { value = pos n; sign = Plus }
+window_digit (negsuc n) = record { value = negsuc n; sign = Minus }
 
 -- a window with the sign of the correction
 abbrev pub turned_by : (correction : ℤ) → ℤ → ℤ
 turned_by (pos x) w = w
 turned_by (negsuc x) w = neg_ℤ w
+
+-- the digit's entry stands in a table of so many cells, of which `origin` is that of 0
+abbrev pub Reaches : (cells origin : ℕ) → Digit → Type 0
+Reaches cells origin d = unsigned_abs (pos origin +ℤ signed d.sign d.value) < cells
+
+module _ {E : Type 0} (g : Group E) where
+  -- n elements, each the one before it and the step, the first the step after `value`
+  abbrev pub risen : (n : ℕ) → (step value : E) → List E
+  risen zero step value = []
+  risen (suc n) step value = risen n step value ++ additions g (suc n) step value ∷ []
+
+  -- the part for the windows: sA where the entry for 0 stands, upward by unitA, downward by its negative
+  abbrev pub window_cells : (down up : ℕ) → (unitA sA : E) → List E
+  window_cells down up unitA sA = reverse (risen down (negated g unitA) sA) ++ sA ∷ risen up unitA sA
+
+  -- the part for the correction: neutral, the base, and so many more upward by the base
+  abbrev pub small_cells : (count : ℕ) → (base : E) → List E
+  small_cells count base = g.neutral ∷ base ∷ risen count base base
+
+  -- both parts, with the multiples of the base up to top
+  abbrev pub table_cells : (down up top : ℕ) → (unitA sA base : E) → List E
+  table_cells down up top unitA sA base = window_cells down up unitA sA ++ small_cells (top - 1) base
+
+  -- what a digit reads in a part of the table, of which `origin` is the cell for 0: the entry of the digit with its sign, turned by the sign
+  abbrev pub read_digit : List E → (origin : ℕ) → Digit → E
+  read_digit cells origin d = turned g d.sign (slice_index_or cells (unsigned_abs (pos origin +ℤ signed d.sign d.value)) g.neutral)
+
+  -- steps 5 to 7 by what the digits and the windows of the correction read
+  abbrev pub evaluated : List E → (middle small k b : ℕ) → (base : E) → List ℤ → (correction : ℤ) → (bit : ℕ) → E
+  evaluated cells middle small k b base words c bit =
+      added g (doubled g (added g (gathered g k (read_digit cells middle) (map decoded words)) (gathered g k (read_digit cells small) (map window_digit (correction_windows k b c))))) (chosen g base bit)

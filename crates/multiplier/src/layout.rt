@@ -6,12 +6,16 @@ use inputs::rule::SignRule;
 use inputs::sizes::Sizes;
 
 /// How many entries for digits stand below the entry for 0 and above it, and the greatest multiple
-/// of the base that stands behind them.
+/// of the base that stands behind them. Every layout is as small as the fields below say.
 #[derive(Clone, Copy)]
 pub(crate) struct Layout {
     pub(crate) down: usize,
     pub(crate) up: usize,
     pub(crate) top: usize,
+    ghost down_most: { down ≤ 4 },
+    ghost up_most: { up ≤ 64 },
+    ghost top_least: { 1 ≤ top },
+    ghost top_most: { top ≤ 32 },
 }
 
 impl Layout {
@@ -20,7 +24,6 @@ impl Layout {
         ensures down { result.down ≡ unsigned_abs ((R.SignRule.rule rule.now).lo sizes.k sizes.b) }
         ensures up { result.up ≡ unsigned_abs ((R.SignRule.rule rule.now).hi sizes.k sizes.b) }
         ensures top { result.top ≡ 2 ^ (sizes.k - 1) }
-        ensures small { (result.down ≤ 4) × ((result.up ≤ 64) × (result.top ≤ 32)) }
         ensures needed { result.down + result.up + 1 + (result.top + 1) ≡ cells_needed (R.SignRule.rule rule.now) sizes }
     {
         Layout {
@@ -32,7 +35,6 @@ impl Layout {
 
     // Where 0 times the base stands.
     pub(crate) fn small(self) -> usize
-        requires { (self.down ≤ 4) × (self.up ≤ 64) }
         ensures { result ≡ self.down + self.up + 1 }
     {
         self.down + self.up + 1
@@ -40,7 +42,6 @@ impl Layout {
 
     // How many cells there are.
     pub(crate) fn len(self) -> usize
-        requires { (self.down ≤ 4) × ((self.up ≤ 64) × (self.top ≤ 32)) }
         ensures { result ≡ self.down + self.up + 1 + (self.top + 1) }
     {
         self.small() + self.top + 1

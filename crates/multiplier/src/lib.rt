@@ -8,3 +8,4 @@ mod layout;
 pub mod multiply;
 mod operations;
 mod table;
+mod word;

@@ -1,17 +1,16 @@
 //! The multiplication.
 ghost use Rattle.std.specs.Prelude.{◌≡◌, ◌+◌, ◌-◌, ◌%◌, ◌^◌, ◌<◌, ◌≤◌, [], ◌∷◌, map, length, replicate, None, Ok};
+ghost use Rattle.std.specs.List.{All};
 ghost use Rattle.inputs.specs.Keys.{scalar};
 ghost use Rattle.inputs.specs.Tests.{Tested, or_else};
 ghost use Rattle.multiplier.specs.Calls.{Made, asked, base_refusal, cells_after, cells_needed, keyed, table_refusal};
 ghost use Rattle.multiplier.specs.Runs.{GoesOn};
-ghost use Rattle.multiplier.specs.Tables.{AllReach, evaluated};
-ghost use Rattle.multiplier.specs.declared.table.Part.TheVariants.{Windows};
+ghost use Rattle.multiplier.specs.Tables.{Reaches, evaluated};
 ghost use Rattle.recoding.specs.Codings.{Within, check_refusal, recode_refusal};
 ghost use Rattle.recoding.specs.Digits.{decoded, zeros};
 ghost use Rattle.steps.specs.Steps.{multiplied};
 ghost use Rattle.steps.specs.Work.{sums_work, work};
 
-use crate::build::build;
 use crate::evaluate::evaluate;
 use crate::layout::Layout;
 use crate::table::Table;
@@ -107,14 +106,10 @@ fn multiply_drawn<D: GroupDevice, R: SignRule>(
     ensures same { D.GroupDevice.group device.new ≡ D.GroupDevice.group device.old }
     ensures counted { D.GroupDevice.tally device.new ≡ work ((R.SignRule.rule rule.now).lo sizes.k sizes.b) ((R.SignRule.rule rule.now).hi sizes.k sizes.b) sizes.k sizes.b sizes.m (D.GroupDevice.tally device.old) }
 {
-    let coded = match recode(rule, sizes, key, draw, words) {
-        Ok(coded) => coded,
-        Err(back) => {
-            let (refusal, draw) = back;
-            draw.end();
-            return Err(refusal);
-        }
-    };
+    let coded = recode(rule, sizes, key, draw, words).map_err(|(refusal, draw)| {
+        draw.end();
+        refusal
+    })?;
     let bit = lowest_bit(key);
     let digits = &words[0..sizes.windows() as usize];
     Ok(multiply_coded(device, rule, sizes, base, bit, coded, cells, digits))
@@ -141,30 +136,8 @@ fn multiply_coded<D: GroupDevice, R: SignRule>(
 {
     let layout = Layout::new(rule, sizes);
     let s = coded.draw_value();
-    build(device, layout, base, s, sizes.draw_width(), cells);
-    spend(device, sizes, layout, cells, coded, words, base, bit)
-}
-
-// Evaluates the table in the cells, and leaves them neutral.
-fn spend<D: GroupDevice>(
-    device: &mut D,
-    sizes: Sizes,
-    layout: Layout,
-    cells: &mut [D::Element],
-    coded: Coded,
-    words: &[i32],
-    base: D::Element,
-    bit: u32,
-) -> D::Element
-    requires small { (layout.down ≤ 4) × (layout.up ≤ 64) }
-    requires digits { AllReach (length cells.old) (Windows layout.down) words.now }
-    requires windows { layout.down + layout.up + 1 + 2 ^ (sizes.k - 1) < length cells.old }
-    ensures value { result ≡ evaluated (D.GroupDevice.group device.old) cells.old layout.down (layout.down + layout.up + 1) sizes.k sizes.b base words.now coded.correction bit }
-    ensures cells { cells.new ≡ replicate (length cells.old) (D.GroupDevice.group device.old).neutral }
-    ensures same { D.GroupDevice.group device.new ≡ D.GroupDevice.group device.old }
-    ensures counted { D.GroupDevice.tally device.new ≡ sums_work sizes.k sizes.b (length words.now) (D.GroupDevice.tally device.old) }
-{
     let mut table = Table::new(cells);
+    table.build(device, layout, base, s, sizes.draw_width());
     let value = evaluate(device, sizes, layout, &table, coded, words, base, bit);
     table.wipe(device.neutral());
     value

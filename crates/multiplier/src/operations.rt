@@ -55,6 +55,7 @@ pub(crate) fn climb<D: GroupDevice>(
     ensures counted { D.GroupDevice.tally device.new ≡ many_rounds bits 1 (D.GroupDevice.tally device.old) }
 {
     let mut result = device.neutral();
+    // By index, which is the place of a bit in a number: there are no items to go over.
     for i in (0..bits).rev() {
         let addend = choose(device, base, (s >> i) % 2);
         result = round(device, result, 1, addend);

@@ -1,17 +1,9 @@
 //! The table of a multiplication, over cells that the caller lends.
-ghost use Rattle.std.specs.Prelude.{◌≡◌, ℕ, ◌+◌, ◌<◌, ◌≤◌, length, replicate, slice_index_or};
-ghost use Rattle.multiplier.specs.Tables.{filled_down, filled_up};
+ghost use Rattle.std.specs.Prelude.{◌≡◌, ◌<◌, length, replicate, slice_index_or};
+ghost use Rattle.multiplier.specs.Tables.{risen};
 ghost use Rattle.steps.specs.Work.{many_additions};
 
 use groups::device::GroupDevice;
-
-/// The two parts of a table: the entries for the digits of the windows, of which the one for 0
-/// stands at `middle`, and the multiples of the base for the correction, from `small` on.
-#[derive(Clone, Copy)]
-pub(crate) enum Part {
-    Windows { middle: u32 },
-    Correction { small: usize },
-}
 
 /// Cells that hold multiples of a base, of whatever kind its elements are.
 #[derive(Drop)]
@@ -33,7 +25,7 @@ impl<'a, E: Copy> Table<'a, E> {
         requires { i < length self.now.cells.now }
         ensures { (d : E) → result ≡ slice_index_or self.now.cells.now i d }
     {
-        cell(self.cells, i)
+        self.cells[i]
     }
 
     // Writes an element into all cells.
@@ -45,13 +37,8 @@ impl<'a, E: Copy> Table<'a, E> {
     }
 }
 
-fn cell<E: Copy>(cells: &[E], i: usize) -> E
-    requires { i < length cells.now }
-    ensures { (d : E) → result ≡ slice_index_or cells.now i d }
-{
-    cells[i]
-}
-
+// The library's `fill` asks that a clone of `e` can't fail, which is not known of every element
+// that is copied.
 fn wipe_cells<E: Copy>(cells: &mut [E], e: E)
     ensures { cells.new ≡ replicate (length cells.old) e }
 {
@@ -60,39 +47,20 @@ fn wipe_cells<E: Copy>(cells: &mut [E], e: E)
     }
 }
 
-// From the cell at `from` upward, so many cells more: each is the one before it and the step.
+// Each cell is the one before it and the step, and the first the step after `value`.
 pub(crate) fn fill_up<D: GroupDevice>(
     device: &mut D,
     cells: &mut [D::Element],
-    from: usize,
-    count: usize,
+    value: D::Element,
     step: D::Element,
 )
-    requires { from + count < length cells.old }
-    ensures cells { cells.new ≡ filled_up (D.GroupDevice.group device.old) cells.old from count step }
+    ensures cells { cells.new ≡ risen (D.GroupDevice.group device.old) (length cells.old) step value }
     ensures same { D.GroupDevice.group device.new ≡ D.GroupDevice.group device.old }
-    ensures counted { D.GroupDevice.tally device.new ≡ many_additions count (D.GroupDevice.tally device.old) }
+    ensures counted { D.GroupDevice.tally device.new ≡ many_additions (length cells.old) (D.GroupDevice.tally device.old) }
 {
-    for i in 0..count {
-        cells[from + i + 1] = device.add(cells[from + i], step);
-    }
-}
-
-// And downward.
-pub(crate) fn fill_down<D: GroupDevice>(
-    device: &mut D,
-    cells: &mut [D::Element],
-    from: usize,
-    count: usize,
-    step: D::Element,
-)
-    requires inside { from < length cells.old }
-    requires room { count ≤ from }
-    ensures cells { cells.new ≡ filled_down (D.GroupDevice.group device.old) cells.old from count step }
-    ensures same { D.GroupDevice.group device.new ≡ D.GroupDevice.group device.old }
-    ensures counted { D.GroupDevice.tally device.new ≡ many_additions count (D.GroupDevice.tally device.old) }
-{
-    for i in 0..count {
-        cells[from - i - 1] = device.add(cells[from - i], step);
+    let mut sum = value;
+    for cell in cells.iter_mut() {
+        sum = device.add(sum, step);
+        *cell = sum;
     }
 }

@@ -4,30 +4,37 @@
 //! `no NUMBER LAYER PLACE` or by `unreadable`; a last line says how many of each there were.
 #![tactic(auto)]
 
-use console::line::{answer_line, next_line};
-use console::summary::Summary;
-use std::io;
-use std::io::{Read, Write};
+ghost use Rattle.std.specs.Prelude.{[]};
+ghost use Rattle.console.specs.Lines.{LineAnswered};
 
-// How much is gathered before it is written.
-const FULL: usize = 65536;
+use console::line::answer_line;
+use lines::program::{Program, answer_all};
+use lines::summary::Kind;
+use std::alloc::{AllocError, Global};
+use std::io;
+
+struct Recode;
+
+impl Program for Recode {
+    ghost answers = { λ line said kind. LineAnswered line [] said kind };
+
+    fn answer_line(
+        &self,
+        heap: Global,
+        line: &[u8],
+        out: &mut Vec<u8>,
+    ) -> Result<Kind, AllocError> {
+        answer_line(heap, line, out)
+    }
+}
 
 fn main(rt: HostRuntime) -> io::Result<()> {
-    let heap = rt.alloc();
-    let mut input = Vec::new(heap);
-    rt.stdin().read_to_end(&mut input)?;
-    let mut out = Vec::new(heap);
-    let mut summary = Summary::new();
-    let mut rest = input.as_slice();
-    while !rest.is_empty() {
-        let (line, more) = next_line(rest);
-        summary = summary.count(answer_line(heap, line, &mut out)?);
-        if out.len() >= FULL {
-            rt.stdout().write_all(out.as_slice())?;
-            out.clear();
-        }
-        rest = more;
-    }
-    summary.write(&mut out)?;
-    rt.stdout().write_all(out.as_slice())
+    let words = b" keys recoded and checked, ";
+    answer_all(
+        &Recode,
+        rt.alloc(),
+        words,
+        &mut rt.stdin(),
+        &mut rt.stdout(),
+    )
 }

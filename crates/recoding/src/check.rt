@@ -9,9 +9,8 @@ ghost use Rattle.inputs.specs.Signs.{signed};
 ghost use Rattle.inputs.specs.Sizes.{key_bits};
 ghost use Rattle.inputs.specs.Tests.{Tested};
 
-use crate::digit::Digit;
+use crate::digit::{Digit, times_sign};
 use crate::power::{divided, scaled};
-use crate::window::times_sign;
 use common::refusal::Refusal;
 use inputs::key::{check_key, top_bits, window_bits};
 use inputs::rule::SignRule;
@@ -34,8 +33,8 @@ pub fn check_lent(sizes: Sizes, key: &[u32], words: usize) -> Result<(), Refusal
 fn within_limits(lo: i32, hi: i32, words: &[i32]) -> bool
     ensures { Decides result (Within lo hi (map decoded words.now)) }
 {
-    for i in 0..words.len() {
-        if !digit_within(lo, hi, words[i]) {
+    for word in words {
+        if !digit_within(lo, hi, *word) {
             return false;
         }
     }
@@ -59,9 +58,9 @@ fn equation_holds(sizes: Sizes, key: &[u32], s: u32, correction: i32, words: &[i
     ensures { Decides result (pos (half key.now) ≡ correction +ℤ total sizes.k sizes.b s 0 (map decoded words.now)) }
 {
     let mut carried = correction as i64;
-    for i in 0..sizes.windows() {
-        let bits = window_bits(sizes, key, i);
-        let Some(next) = carry_on(sizes, carried, words[i as usize], s, bits) else {
+    for (i, word) in words.iter().enumerate() {
+        let bits = window_bits(sizes, key, i as u32);
+        let Some(next) = carry_on(sizes, carried, *word, s, bits) else {
             return false;
         };
         carried = next;
@@ -77,7 +76,10 @@ fn carry_on(sizes: Sizes, carried: i64, word: i32, s: u32, bits: u32) -> Option<
 {
     let digit = Digit::decode(word);
     let sum = carried + scaled(sizes.unit(), digit.value as i64);
-    divided(sizes.step(), sum + times_sign(s, digit.sign) - bits as i64)
+    divided(
+        sizes.step(),
+        sum + times_sign(s as i64, digit.sign) - bits as i64,
+    )
 }
 
 /// Whether the draw `s`, the correction and the digits in the first words are a coding of the key:

@@ -32,10 +32,7 @@ impl Digit {
     pub fn signed(self) -> i64
         ensures { result ≡ signed self.sign self.value }
     {
-        match self.sign {
-            Sign::Plus => self.value as i64,
-            Sign::Minus => -(self.value as i64),
-        }
+        times_sign(self.value as i64, self.sign)
     }
 
     // The word that holds the digit.
@@ -47,6 +44,17 @@ impl Digit {
             Sign::Plus => 2 * self.value,
             Sign::Minus => 2 * self.value + 1,
         }
+    }
+}
+
+// A number with a sign.
+pub(crate) fn times_sign(z: i64, sign: Sign) -> i64
+    requires { (neg_ℤ (pos (2 ^ 32)) ≤ℤ z) × (z ≤ℤ pos (2 ^ 32)) }
+    ensures { result ≡ signed sign z }
+{
+    match sign {
+        Sign::Plus => z,
+        Sign::Minus => -z,
     }
 }
 

@@ -4,10 +4,10 @@ ghost use Rattle.inputs.specs.Rules.{remainder, digit, rest, Reached, Admitted};
 ghost use Rattle.inputs.specs.Signs.{signed, carry_value};
 ghost use Rattle.recoding.specs.Windows.{below};
 
-use crate::digit::Digit;
+use crate::digit::{Digit, times_sign};
 use crate::power::scaled;
 use inputs::rule::SignRule;
-use inputs::sign::{Carry, Choice, Sign};
+use inputs::sign::{Carry, Choice};
 use inputs::sizes::Sizes;
 
 // A window's digit, what it adds to the window above, and what it leaves to the one below.
@@ -49,17 +49,7 @@ fn remain(sizes: Sizes, h: i64, s: u32, choice: Choice) -> i64
     ensures least { neg_ℤ (pos (2 ^ 40)) ≤ℤ result }
     ensures most { result ≤ℤ pos (2 ^ 40) }
 {
-    h - times_sign(s, choice.sign) - times_carry(sizes.span(), choice.carry)
-}
-
-// The draw with a sign.
-pub(crate) fn times_sign(s: u32, sign: Sign) -> i64
-    ensures { result ≡ signed sign (pos s) }
-{
-    match sign {
-        Sign::Plus => s as i64,
-        Sign::Minus => -(s as i64),
-    }
+    h - times_sign(s as i64, choice.sign) - times_carry(sizes.span(), choice.carry)
 }
 
 // The span as often as the carry says.

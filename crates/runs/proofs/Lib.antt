@@ -1,4 +1,3 @@
-pub mod Asking
 pub mod Refusing
 pub mod Going
 pub mod Products

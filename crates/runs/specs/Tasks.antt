@@ -1,6 +1,5 @@
 -- Tasks as calls, and a run of them. Assumes nothing.
-use Rattle.std.specs.Prelude.{◌≡◌, ℕ, min, List, [], map, length, ℤ, Some, vec_items, Result}
-use Rattle.common.specs.declared.refusal.Refusal.{Refusal}
+use Rattle.std.specs.Prelude.{◌≡◌, min, List, [], map, length, ℤ, vec_items}
 use Rattle.inputs.specs.Rules.{Rule}
 use Rattle.recoding.specs.Digits.{zeros}
 use Rattle.groups.specs.Groups.{Group}
@@ -25,10 +24,6 @@ module _ {E R : Type 0} where
     answer = o.outcome;
     after = o.mark;
   }
-
-  -- the task with what came of it
-  abbrev pub told : Task E R → ℕ → Result E Refusal → Task E R
-  told o mark r = record { ask = o.ask; cells = o.cells; words = o.words; mark = mark; outcome = Some r }
 
   -- the calls of a list of tasks
   abbrev pub calls : (R → Rule) → List (Task E R) → List (Call E)

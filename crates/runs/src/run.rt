@@ -2,10 +2,9 @@
 ghost use Rattle.std.specs.Prelude.{◌≡◌};
 ghost use Rattle.multiplier.specs.Calls.{Made};
 ghost use Rattle.multiplier.specs.Runs.{AlikeRuns};
-ghost use Rattle.runs.specs.Tasks.{LawfulRun, call, calls, cells_left, cells_of, told, words_left, words_of};
+ghost use Rattle.runs.specs.Tasks.{LawfulRun, call, calls, cells_left, cells_of, words_left, words_of};
 
 use crate::task::Task;
-use common::refusal::Refusal;
 use common::stream::Stream;
 use groups::device::GroupDevice;
 use inputs::rule::SignRule;
@@ -36,7 +35,8 @@ pub fn run_both<D1: GroupDevice, R1: SignRule, D2: GroupDevice, R2: SignRule>(
     run_each(first, first_tasks, second, second_tasks);
 }
 
-// Both runs, each with its own law.
+// Both runs, each with its own law. Apart from `run_both`, whose clause of the two runs together
+// the check did not close alone.
 fn run_each<D1: GroupDevice, R1: SignRule, D2: GroupDevice, R2: SignRule>(
     first: &mut D1,
     first_tasks: &mut [Task<D1::Element, R1>],
@@ -69,14 +69,6 @@ fn run_one<D: GroupDevice, R: SignRule>(device: &mut D, task: &mut Task<D::Eleme
         task.cells.as_mut_slice(),
         task.words.as_mut_slice(),
     );
-    let mark = draws.mark();
-    keep(task, mark, result);
-}
-
-// Writes down what came of a task.
-fn keep<E: Copy, R>(task: &mut Task<E, R>, mark: usize, res: Result<E, Refusal>)
-    ensures { task.new ≡ told task.old mark res }
-{
-    task.mark = mark;
-    task.outcome = Some(res);
+    task.mark = draws.mark();
+    task.outcome = Some(result);
 }

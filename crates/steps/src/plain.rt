@@ -1,8 +1,8 @@
 //! The plain tally of a multiplication, counted without a device.
-ghost use Rattle.std.specs.Prelude.{◌≡◌, ◌-◌, ◌^◌, ◌≤◌, unsigned_abs};
-ghost use Rattle.steps.specs.Corrections.{correction_count};
+ghost use Rattle.std.specs.Prelude.{◌≡◌, ◌-◌, ◌^◌};
 ghost use Rattle.steps.specs.Work.{Counts, many_additions, many_doublings, many_rounds, sums_work, table_work, work};
 
+use crate::corrections::correction_count;
 use groups::tally::Tally;
 use inputs::rule::SignRule;
 use inputs::sizes::Sizes;
@@ -24,8 +24,8 @@ fn count_table(tally: Tally, lo: i32, hi: i32, sizes: Sizes) -> Tally
 {
     let unit = count_doublings(tally, sizes.draw_width());
     let climbed = count_rounds(unit, sizes.draw_width(), 1);
-    let upward = count_additions(climbed, size(hi));
-    let downward = count_additions(upward, size(lo));
+    let upward = count_additions(climbed, hi.unsigned_abs());
+    let downward = count_additions(upward, lo.unsigned_abs());
     count_additions(downward, more_multiples(sizes))
 }
 
@@ -35,18 +35,11 @@ fn count_sums(tally: Tally, sizes: Sizes) -> Tally
 {
     let width = sizes.window_width();
     let windows = count_rounds(tally, sizes.windows(), width);
-    let mut sums = count_rounds(windows, correction_windows(sizes), width);
+    let mut sums = count_rounds(windows, correction_count(sizes), width);
     sums.count_addition();
     sums.count_doubling();
     sums.count_addition();
     sums
-}
-
-// A limit without its sign.
-fn size(limit: i32) -> u32
-    ensures { result ≡ unsigned_abs limit }
-{
-    limit.unsigned_abs()
 }
 
 // How many multiples of the base the table has above the base itself.
@@ -56,13 +49,8 @@ fn more_multiples(sizes: Sizes) -> u32
     (1 << (sizes.window_width() - 1)) - 1
 }
 
-// How many windows a correction has.
-fn correction_windows(sizes: Sizes) -> u32
-    ensures { result ≡ correction_count sizes.k sizes.b }
-{
-    sizes.draw_width() / sizes.window_width() + 1
-}
-
+// Three loops of a line each, and not one over a closure: a contract over any closure is longer
+// than such a loop, and a call of it no shorter.
 // So many doublings more.
 fn count_doublings(tally: Tally, times: u32) -> Tally
     ensures { result ≡ many_doublings times tally }

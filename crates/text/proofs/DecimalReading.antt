@@ -1,13 +1,9 @@
 -- A decimal text of which the first i digits have been read. Assumes nothing.
 use Rattle.std.proofs.Common.{◌≡◌, ℕ, ◌+◌, ◌*◌, ◌^◌, ◌<◌, ◌≤◌, List, [], ◌∷◌, length, get_or, drop, Some, None, Option, sym, refl, ap, ◌∙◌, arith}
 use Rattle.std.proofs.lemmas.Bool.{cond-true, cond-false, lt-ltb, le-ltb}
-use Rattle.std.proofs.lemmas.Bool.Decides.{nat_tests}
 use Rattle.text.proofs.Spelling.{spelled_more, spelled_none, spelled_all}
 use Rattle.text.specs.Decimal.{decimal_digit, decimal_of, fits32}
 use Rattle.text.specs.Numerals.{and_then, spelled_after}
-
-pub decimal_digit_small : (c d : ℕ) → decimal_digit c ≡ Some d → d < 10
-decimal_digit_small c d e = grind (arith, nat_tests)
 
 -- more digits do not make a number fit that is too large
 too_large : (n : ℕ) (cs : List ℕ) → 2 ^ 32 ≤ n → and_then (spelled_after decimal_digit 10 n cs) fits32 ≡ None
@@ -35,14 +31,16 @@ module _ (xs : List ℕ) (i n : ℕ) (p : Reading xs i n) where
       some [] h = absurd (omega arith)
       some (c ∷ cs) h = refl
 
-  pub reading_more : (d : ℕ) → i < length xs → decimal_digit (get_or xs i 0) ≡ Some d → 10 * n + d < 2 ^ 32 → Reading xs (i + 1) (10 * n + d)
-  reading_more d h e small = record { fits = small; spelled = sym (spelled_more decimal_digit 10 n xs i d h e) ∙ p.spelled }
+  pub reading_more : (d m : ℕ) → i < length xs → decimal_digit (get_or xs i 0) ≡ Some d → m ≡ n * 10 + d → m < 2 ^ 32 → Reading xs (i + 1) m
+  reading_more d m h e is small =
+      let next : m ≡ 10 * n + d = omega arith in
+      record { fits = small; spelled = ap (λ m. spelled_after decimal_digit 10 m (drop (i + 1) xs)) next ∙ sym (spelled_more decimal_digit 10 n xs i d h e) ∙ p.spelled }
 
   pub no_digit : i < length xs → decimal_digit (get_or xs i 0) ≡ None → None ≡ decimal_of xs
   no_digit h e = from_rest None (omega arith) (spelled_none decimal_digit 10 n xs i h e)
 
-  pub outgrown : (d : ℕ) → i < length xs → decimal_digit (get_or xs i 0) ≡ Some d → 2 ^ 32 ≤ 10 * n + d → None ≡ decimal_of xs
-  outgrown d h e large = sym (too_large (10 * n + d) (drop (i + 1) xs) large) ∙ from_rest _ (omega arith) (spelled_more decimal_digit 10 n xs i d h e)
+  pub outgrown : (d : ℕ) → i < length xs → decimal_digit (get_or xs i 0) ≡ Some d → 2 ^ 32 ≤ n * 10 + d → None ≡ decimal_of xs
+  outgrown d h e large = sym (too_large (10 * n + d) (drop (i + 1) xs) (omega arith)) ∙ from_rest _ (omega arith) (spelled_more decimal_digit 10 n xs i d h e)
 
   pub all_read : 0 < length xs → length xs ≤ i → Some n ≡ decimal_of xs
   all_read some h = sym (cond-true _ _ _ (lt-ltb n (2 ^ 32) p.fits)) ∙ from_rest (Some n) some (spelled_all decimal_digit 10 n xs i h)

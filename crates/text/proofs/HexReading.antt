@@ -1,5 +1,5 @@
 -- A text of hexadecimal digits of which the first i have been read. Assumes nothing.
-use Rattle.std.proofs.Common.{◌≡◌, ℕ, ◌+◌, ◌*◌, ◌^◌, ◌<◌, ◌≤◌, List, length, get_or, drop, Some, None, sym, refl, ap, ◌∙◌, subst, pow-suc, add-one, arith}
+use Rattle.std.proofs.Common.{◌≡◌, ℕ, ◌+◌, ◌*◌, ◌^◌, ◌<◌, ◌≤◌, List, length, get_or, drop, Some, None, sym, refl, ap, ◌∙◌, pow-suc, add-one, arith}
 use native.Mathlib.Nat.{pow-le-pow_right}
 use Rattle.std.proofs.lemmas.Bool.Decides.{nat_tests}
 use Rattle.text.proofs.Spelling.{spelled_more, spelled_none, spelled_all}
@@ -26,11 +26,6 @@ module _ (xs : List ℕ) (i n : ℕ) (p : Reading xs i n) where
   pub all_read : length xs ≤ i → Some n ≡ hex_number xs
   unfolding hex_number
   all_read h = sym (spelled_all hex_digit 16 n xs i h) ∙ p.spelled
-
-  pub all_small : length xs ≤ i → i ≤ length xs → n < 16 ^ length xs
-  all_small h k =
-      let same : i ≡ length xs = omega arith in
-      subst (λ j. n < 16 ^ j) same p.small
 
   module _ (d : ℕ) (h : i < length xs) (e : hex_digit (get_or xs i 0) ≡ Some d) where
     next_small : 16 * n + d < 16 ^ (i + 1)

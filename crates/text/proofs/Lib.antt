@@ -4,4 +4,3 @@ mod DecimalReading
 mod HexReading
 mod Grouping
 mod WordsNumber
-mod DigitWriting

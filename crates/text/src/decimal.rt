@@ -11,16 +11,11 @@ pub fn decimal(text: &[u8]) -> Option<u32>
     if text.is_empty() {
         return None;
     }
+    // Not `parse`, which takes a `+` too.
     let mut number: u32 = 0;
     for byte in text {
-        let Some(digit) = decimal_digit(*byte) else {
-            return None;
-        };
-        let wide = 10 * number as u64 + digit as u64;
-        if wide >= 0x1_0000_0000 {
-            return None;
-        }
-        number = wide as u32;
+        let digit = decimal_digit(*byte)?;
+        number = number.checked_mul(10)?.checked_add(u32::from(digit))?;
     }
     Some(number)
 }

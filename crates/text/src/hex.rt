@@ -23,21 +23,18 @@ pub fn hex_digit(byte: u8) -> Option<u8>
 pub fn hex_bytes(heap: Global, text: &[u8]) -> Result<Option<Vec<u8>>, AllocError>
     ensures value { IfOk result (λ o. option_map vec_items o ≡ bytes_of text.now) }
 {
+    if text.len() % 2 != 0 {
+        return Ok(None);
+    }
     let mut bytes = Vec::new(heap);
-    let mut rest = text;
-    while rest.len() >= 2 {
-        let (pair, more) = rest.split_at(2);
+    for pair in text.chunks(2) {
+        // Not `?`, which passes up the error of memory alone.
         let Some(byte) = hex_number(pair) else {
             return Ok(None);
         };
         bytes.push(byte as u8)?;
-        rest = more;
     }
-    if rest.is_empty() {
-        Ok(Some(bytes))
-    } else {
-        Ok(None)
-    }
+    Ok(Some(bytes))
 }
 
 /// The number that hexadecimal digits spell, most significant first, as words of 32 bits, lowest first.
@@ -49,14 +46,12 @@ pub fn hex_words(heap: Global, text: &[u8]) -> Result<Option<Vec<u32>>, AllocErr
     ensures number { IfOk result (λ o. option_map (λ v. words_number v.items) o ≡ hex_number text.now) }
 {
     let mut words = Vec::new(heap);
-    let mut rest = text;
-    while !rest.is_empty() {
-        let (more, last) = rest.split_at(rest.len().saturating_sub(8));
-        let Some(word) = hex_number(last) else {
+    for group in text.rchunks(8) {
+        // Not `?`, which passes up the error of memory alone.
+        let Some(word) = hex_number(group) else {
             return Ok(None);
         };
         words.push(word)?;
-        rest = more;
     }
     Ok(Some(words))
 }
@@ -69,10 +64,8 @@ fn hex_number(text: &[u8]) -> Option<u32>
 {
     let mut number: u32 = 0;
     for byte in text {
-        let Some(digit) = hex_digit(*byte) else {
-            return None;
-        };
-        number = 16 * number + digit as u32;
+        let digit = hex_digit(*byte)?;
+        number = 16 * number + u32::from(digit);
     }
     Some(number)
 }

@@ -18,12 +18,10 @@ impl<'a> Stream<'a> {
         ensures source { result.bytes.now ≡ bytes.now }
         ensures mark { result.mark ≡ min mark (length bytes.now) }
     {
-        let mark = if mark < bytes.len() {
-            mark
-        } else {
-            bytes.len()
-        };
-        Stream { bytes, mark }
+        Stream {
+            bytes,
+            mark: mark.min(bytes.len()),
+        }
     }
 
     /// How many bytes are read.
@@ -45,10 +43,7 @@ impl<'a> Stream<'a> {
         ensures source { self.new.bytes.now ≡ self.old.bytes.now }
         ensures byte { Next self.old.bytes.now self.old.mark result self.new.mark }
     {
-        if self.mark >= self.bytes.len() {
-            return None;
-        }
-        let byte = self.bytes[self.mark];
+        let byte = *self.bytes.get(self.mark)?;
         self.mark += 1;
         Some(byte)
     }
@@ -58,13 +53,10 @@ impl<'a> Stream<'a> {
         ensures source { self.new.bytes.now ≡ self.old.bytes.now }
         ensures taken { NextMany self.old.bytes.now self.old.mark count result self.new.mark }
     {
-        if self.bytes.len() - self.mark < count {
-            return None;
-        }
-        let from = self.mark;
+        let rest = &self.bytes[self.mark..];
+        let (part, _) = rest.split_at_checked(count)?;
         self.mark += count;
-        let bytes = self.bytes;
-        Some(&bytes[from..from + count])
+        Some(part)
     }
 
     /// Goes back to an earlier mark; a later one changes nothing.
@@ -72,8 +64,6 @@ impl<'a> Stream<'a> {
         ensures source { self.new.bytes.now ≡ self.old.bytes.now }
         ensures mark { self.new.mark ≡ min mark self.old.mark }
     {
-        if mark < self.mark {
-            self.mark = mark;
-        }
+        self.mark = self.mark.min(mark);
     }
 }

@@ -1,9 +1,9 @@
 //! Arithmetic of points on the curve, modulo 11.
-ghost use Rattle.std.specs.Prelude.{◌≡◌, ◌*◌, ◌%◌, ◌<◌, true};
-ghost use Rattle.groups.specs.Curve.{affine_sum, chord, curve_negative, curve_points, inverse, on_curve, over, tangent, third};
-ghost use Rattle.groups.specs.Residues.{minus};
+ghost use Rattle.std.specs.Prelude.{◌≡◌, true};
+ghost use Rattle.groups.specs.Curve.{affine_sum, chord, curve_negative, curve_points, on_curve, tangent, third};
 
 use super::CurvePoint;
+use super::residue::Residue;
 
 /// Whether a point is on the curve.
 pub(super) fn on_curve(p: CurvePoint) -> bool
@@ -22,20 +22,22 @@ pub(super) fn sum(p: CurvePoint, q: CurvePoint) -> CurvePoint
     requires { (on_curve p ≡ true) × (on_curve q ≡ true) }
     ensures { result ≡ affine_sum p q }
 {
-    match p {
-        CurvePoint::Infinity => q,
-        CurvePoint::Affine { x: x1, y: y1 } => match q {
-            CurvePoint::Infinity => p,
-            CurvePoint::Affine { x: x2, y: y2 } => {
-                if x1 != x2 {
-                    by_chord(x1, y1, x2, y2)
-                } else if (y1 + y2) % 11 == 0 {
-                    CurvePoint::Infinity
-                } else {
-                    by_tangent(x1, y1)
-                }
+    match (p, q) {
+        (CurvePoint::Infinity, other) | (other, CurvePoint::Infinity) => other,
+        (CurvePoint::Affine { x: x1, y: y1 }, CurvePoint::Affine { x: x2, y: y2 }) => {
+            if x1 != x2 {
+                by_chord(
+                    Residue::of(x1),
+                    Residue::of(y1),
+                    Residue::of(x2),
+                    Residue::of(y2),
+                )
+            } else if (y1 + y2) % 11 == 0 {
+                CurvePoint::Infinity
+            } else {
+                by_tangent(Residue::of(x1), Residue::of(y1))
             }
-        },
+        }
     }
 }
 
@@ -75,59 +77,28 @@ pub(super) fn all_points() -> [CurvePoint; 13]
 }
 
 /// The sum of two points with different x.
-fn by_chord(x1: u32, y1: u32, x2: u32, y2: u32) -> CurvePoint
-    requires { (x1 < 11) × (x2 < 11) }
-    ensures { result ≡ chord x1 y1 x2 y2 }
+fn by_chord(x1: Residue, y1: Residue, x2: Residue, y2: Residue) -> CurvePoint
+    ensures { result ≡ chord x1.value y1.value x2.value y2.value }
 {
-    let slope = quotient(difference(y2, y1), difference(x2, x1));
-    third_point(slope, x1, y1, x2)
+    third_point((y2 - y1) / (x2 - x1), x1, y1, x2)
 }
 
 /// The sum of a point with itself.
-fn by_tangent(x: u32, y: u32) -> CurvePoint
-    requires { (x < 11) × (y < 11) }
-    ensures { result ≡ tangent x y }
+fn by_tangent(x: Residue, y: Residue) -> CurvePoint
+    ensures { result ≡ tangent x.value y.value }
 {
-    let slope = quotient(3 * x * x + 1, 2 * y);
-    third_point(slope, x, y, x)
+    let rise = Residue::of(3) * x * x + Residue::of(1);
+    third_point(rise / (y + y), x, y, x)
 }
 
 /// The negative of the third point on the line with that slope through two points.
-fn third_point(slope: u32, x1: u32, y1: u32, x2: u32) -> CurvePoint
-    requires { (slope < 11) × ((x1 < 11) × (x2 < 11)) }
-    ensures { result ≡ third slope x1 y1 x2 }
+fn third_point(slope: Residue, x1: Residue, y1: Residue, x2: Residue) -> CurvePoint
+    ensures { result ≡ third slope.value x1.value y1.value x2.value }
 {
-    let x = difference(slope * slope, x1 + x2);
-    let y = difference(slope * difference(x1, x), y1);
-    CurvePoint::Affine { x, y }
-}
-
-/// `a` − `b` modulo 11.
-fn difference(a: u32, b: u32) -> u32
-    ensures value { result ≡ minus 11 a b }
-    ensures reduced { result < 11 }
-{
-    (a % 11 + (11 - b % 11)) % 11
-}
-
-/// `a` / `b` modulo 11.
-fn quotient(a: u32, b: u32) -> u32
-    requires { (a < 302) × (b < 22) }
-    ensures value { result ≡ over a b }
-    ensures reduced { result < 11 }
-{
-    a * inverse_of(b) % 11
-}
-
-/// The inverse modulo 11 of what is not 0 modulo 11.
-fn inverse_of(a: u32) -> u32
-    requires { a < 22 }
-    ensures value { result ≡ inverse a }
-    ensures reduced { result < 11 }
-    ensures inverts { 0 < a % 11 → (a * result) % 11 ≡ 1 }
-{
-    let base = a % 11;
-    let square = base * base % 11;
-    let fourth = square * square % 11;
-    fourth * fourth * base % 11
+    let x = slope * slope - (x1 + x2);
+    let y = slope * (x1 - x) - y1;
+    CurvePoint::Affine {
+        x: x.value,
+        y: y.value,
+    }
 }

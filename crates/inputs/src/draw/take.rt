@@ -61,9 +61,7 @@ fn lowest_first(bytes: &[u8]) -> u32
     requires { length bytes.now ≤ 4 }
     ensures { result ≡ lowest_first bytes.now }
 {
-    let mut value = 0u32;
-    for i in (0..bytes.len()).rev() {
-        value = value * 256 + bytes[i] as u32;
-    }
-    value
+    let mut word = [0; 4];
+    word[..bytes.len()].copy_from_slice(bytes);
+    u32::from_le_bytes(word)
 }

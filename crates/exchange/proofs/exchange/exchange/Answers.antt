@@ -7,7 +7,7 @@ pub returns-in-Err : goal.returns-in-Err
 returns-in-Err g c =
     let d = g.D.GroupDevice in
     let ran = c.in_ok-tasks.ensures in
-    ends d.group d.tally c.args.first.now c.args.second.now (brought c.args.first_side) (brought c.args.second_side) c.args.base
+    ends d.group d.tally c.args.first.now c.args.second.now (brought c.args.sides.first) (brought c.args.sides.second) c.args.base
     c.in_ok-task.field-0 c.in_ok-task-2.field-0 c.run_round.new.first c.run_round.new.second c.in_ok-tasks.tasks.first c.in_ok-tasks.tasks.second
     ran.first ran.second c.in_ok-task.ensures c.in_ok-task-2.ensures c.answer.result c.answer-2.result c.answer.ensures c.answer-2.ensures
     c.in-Err.refused (sym c.in-Err.is ∙ c.both_answers.ensures)
@@ -17,7 +17,7 @@ returns g c =
     let d = g.D.GroupDevice in
     let ran = c.in_ok-tasks.ensures in
     let again = c.in_ok-tasks-2.ensures in
-    goes_through d.group d.tally c.args.first.now c.args.second.now (brought c.args.first_side) (brought c.args.second_side) c.args.base
+    goes_through d.group d.tally c.args.first.now c.args.second.now (brought c.args.sides.first) (brought c.args.sides.second) c.args.base
     c.in_ok-task.field-0 c.in_ok-task-2.field-0 c.run_round.new.first c.run_round.new.second c.in_ok-tasks.tasks.first c.in_ok-tasks.tasks.second
     ran.first ran.second c.in_ok-task.ensures c.in_ok-task-2.ensures c.answer.result c.answer-2.result c.answer.ensures c.answer-2.ensures
     (g.met.D.GroupDevice.lawful c.args.first.now) c.in-Ok.handed (sym c.in-Ok.is ∙ c.both_answers.ensures)

@@ -1,13 +1,9 @@
-use Rattle.std.proofs.Common.{◌≡◌, ℕ, suc, ◌-◌, ◌/◌, ◌%◌, ◌^◌, refl, ap, ◌∙◌, div-one, arith}
-use native.Mathlib.Nat.{sub_self}
+use Rattle.std.proofs.Common.{◌≡◌, ℕ, suc, ◌-◌, ◌/◌, ◌%◌, ◌^◌, ap, ◌∙◌, arith}
 use Rattle.groups.specs.Groups.{added}
 use Rattle.groups.specs.Tally.{one_addition, one_doubling}
 use Rattle.steps.specs.Operations.{chosen, climbed, doublings}
 use Rattle.multiplier.proofs.Climbing.{climbed_more}
 use Rattle.multiplier.proofs.operations.climb.Goals as goal
-
-pub loop-i-init : goal.loop-i-init
-loop-i-init g c = rw (sub_self c.args.bits) (c.neutral-result.ensures, refl, refl)
 
 pub loop-i-preserved : goal.loop-i-preserved
 loop-i-preserved g c =
@@ -27,13 +23,3 @@ loop-i-preserved g c =
       more.same ∙ inv.1,
       more.counted ∙ ap (λ t. one_addition (one_doubling t)) inv.2,
     )
-
-pub returns : goal.returns
-returns g c =
-    let d = g.D.GroupDevice in
-    let G = d.group c.args.device.now in
-    let inv = c.loop-i.invariant in
-    let done : c.loop-i.i ≡ 0 = omega (arith, c.loop-i-test.false) in
-    let bits : c.args.bits - c.loop-i.i ≡ c.args.bits = omega arith in
-    let whole : c.args.s / 2 ^ c.loop-i.i ≡ c.args.s = ap (λ k. c.args.s / 2 ^ k) done ∙ div-one c.args.s in
-    record { value = rw (bits, whole) at inv.0; same = inv.1; counted = rw bits at inv.2 }

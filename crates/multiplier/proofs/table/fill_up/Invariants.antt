@@ -1,11 +1,14 @@
-use Rattle.std.proofs.Common.{◌≡◌}
+use Rattle.std.proofs.Common.{◌≡◌, take}
+use Rattle.steps.specs.Operations.{additions}
 use Rattle.steps.specs.Work.{many_additions}
-use Rattle.multiplier.specs.Tables.{filled_up}
+use Rattle.multiplier.specs.Tables.{risen}
 use Rattle.multiplier.proofs.table.fill_up.Given as goal
 
-abbrev pub invariant-loop-i : goal.invariant-loop-i
-invariant-loop-i g l =
+abbrev pub invariant-loop-cell : goal.invariant-loop-cell
+invariant-loop-cell g l =
     let d = g.D.GroupDevice in
-    (l.cells ≡ filled_up (d.group l.initial.device) l.initial.cells l.from l.i l.step)
-    × (d.group l.device ≡ d.group l.initial.device)
-    × (d.tally l.device ≡ many_additions l.i (d.tally l.initial.device))
+    let G = d.group l.initial.device in
+    (take l.cell-index l.cells ≡ risen G l.cell-index l.step l.initial.sum)
+    × (l.sum ≡ additions G l.cell-index l.step l.initial.sum)
+    × (d.group l.device ≡ G)
+    × (d.tally l.device ≡ many_additions l.cell-index (d.tally l.initial.device))

@@ -1,5 +1,6 @@
 use Rattle.std.proofs.Common.{◌^◌, ◌<◌, ◌≤◌, ℤ, pos, ◌+ℤ◌, ◌-ℤ◌, ◌*ℤ◌, ap, ◌∙◌, subst, ap₂, arith, pow_mono, w32, w64, SFits, to_z, of_z, rules}
-use Rattle.std.proofs.lemmas.Int.{ints, to_z-of_z}
+use Rattle.std.proofs.lemmas.Int.{ints, to_z-of_z, to_z_pos}
+use Rattle.inputs.specs.Signs.{signed}
 use Rattle.recoding.specs.Codings.{reached}
 use Rattle.recoding.specs.Digits.{decoded}
 use Rattle.recoding.specs.Powers.{Divided}
@@ -24,7 +25,7 @@ draw_about : (c : goal.After-times_sign) → About (2 ^ 32) c.times_sign.result
 draw_about c =
     let t = signed_small c.decode-digit.result.sign c.args.s in
     let f : c.args.s < 2 ^ 32 = c.ranges.s.fits in
-    let e = c.times_sign.ensures in
+    let e = c.times_sign.ensures ∙ ap (signed c.decode-digit.result.sign) (to_z_pos w64 c.args.s (omega arith)) in
     (omega (arith, ints, t, e), omega (arith, ints, t, e))
 
 pub overflow_add-sum-2 : goal.overflow_add-sum-2
@@ -37,7 +38,7 @@ pub returns : goal.returns
 returns c =
     let t = signed_small c.decode-digit.result.sign c.args.s in
     let f : c.args.s < 2 ^ 32 = c.ranges.s.fits in
-    let e = c.times_sign.ensures in
+    let e = c.times_sign.ensures ∙ ap (signed c.decode-digit.result.sign) (to_z_pos w64 c.args.s (omega arith)) in
     let q = (sums c.args.carried c.scaled.result c.times_sign.result c.args.bits c.requires.small (c.scaled.ensures.least, c.scaled.ensures.most) (omega (arith, ints, t, e), omega (arith, ints, t, e)) c.ranges.bits.fits).2 in
     let v : SFits w32 c.decode-digit.result.value = search rules in
     let ed = c.decode-digit.ensures ∙ ap decoded (to_z-of_z w32 c.args.word c.ranges.word) in

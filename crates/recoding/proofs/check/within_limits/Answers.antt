@@ -10,22 +10,22 @@ pub returns-then-not-digit_within : goal.returns-then-not-digit_within
 returns-then-not-digit_within c =
     let f : SFits w32 c.args.lo = c.ranges.lo in
     let g : SFits w32 c.args.hi = c.ranges.hi in
-    let e : SFits w32 (get_or c.args.words.now c.loop-i.i (pos 0)) = search rules in
+    let e : SFits w32 (get_or c.args.words.now c.loop-word.word-index (pos 0)) = search rules in
     let t = simp to_z-of_z at c.if-not-digit_within.ensures.1 in
-    (not_true, λ p. t (within_at c.args.lo c.args.hi c.args.words.now c.loop-i.i c.loop-i-test.true p))
+    (not_true, λ p. t (within_at c.args.lo c.args.hi c.args.words.now c.loop-word.word-index c.loop-word-test.true p))
 
-pub loop-i-preserved : goal.loop-i-preserved
-loop-i-preserved c =
+pub loop-word-preserved : goal.loop-word-preserved
+loop-word-preserved c =
     let f : SFits w32 c.args.lo = c.ranges.lo in
     let g : SFits w32 c.args.hi = c.ranges.hi in
-    let e : SFits w32 (get_or c.args.words.now c.loop-i.i (pos 0)) = search rules in
+    let e : SFits w32 (get_or c.args.words.now c.loop-word.word-index (pos 0)) = search rules in
     let t = simp to_z-of_z at (c.if-not-digit_within.ensures.0 refl) in
-    let i = simp to_z-of_z at c.loop-i.invariant in
-    simp to_z-of_z (within_more c.args.lo c.args.hi c.args.words.now c.loop-i.i c.loop-i-test.true i t)
+    let i = simp to_z-of_z at c.loop-word.invariant in
+    simp to_z-of_z (within_more c.args.lo c.args.hi c.args.words.now c.loop-word.word-index c.loop-word-test.true i t)
 
 pub returns : goal.returns
 returns c =
     let f : SFits w32 c.args.lo = c.ranges.lo in
     let g : SFits w32 c.args.hi = c.ranges.hi in
-    let i = simp to_z-of_z at c.loop-i.invariant in
-    (λ _. subst (λ (ws : List ℤ). Within c.args.lo c.args.hi (map decoded ws)) (take_all c.loop-i.i c.args.words.now c.loop-i-test.false) i, λ _. refl)
+    let i = simp to_z-of_z at c.loop-word.invariant in
+    (λ _. subst (λ (ws : List ℤ). Within c.args.lo c.args.hi (map decoded ws)) (take_all c.loop-word.word-index c.args.words.now c.loop-word-test.false) i, λ _. refl)

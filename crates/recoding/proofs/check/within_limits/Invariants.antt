@@ -3,5 +3,5 @@ use Rattle.recoding.specs.Codings.{Within}
 use Rattle.recoding.specs.Digits.{decoded}
 use Rattle.recoding.proofs.check.within_limits.Given as goal
 
-abbrev pub invariant-loop-i : goal.invariant-loop-i
-invariant-loop-i l = Within l.lo l.hi (map decoded (take l.i l.words))
+abbrev pub invariant-loop-word : goal.invariant-loop-word
+invariant-loop-word l = Within l.lo l.hi (map decoded (take l.word-index l.words))

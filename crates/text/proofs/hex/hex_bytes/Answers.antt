@@ -1,19 +1,33 @@
-use Rattle.std.proofs.Common.{is_ok, Some, None, sym, ap}
+use Rattle.std.proofs.Common.{is_ok, length, Some, None, sym, ap, ◌∙◌, arith, length-append}
 use Rattle.std.proofs.ResultArms.{chosen}
-use Rattle.text.proofs.Grouping.{left_start, left_more, left_none, bytes_group, bytes_left}
+use Rattle.std.specs.Slice.Iter.{chunks_rest, chunks_size}
+use Rattle.text.proofs.Grouping.{left_start, left_more, left_none, bytes_group, bytes_odd, bytes_left}
 use Rattle.text.proofs.hex.hex_bytes.Goals as goal
 
-pub loop-rest-init : goal.loop-rest-init
-loop-rest-init c = bytes_left (left_start _ _ _ c.new-bytes.ensures.items)
+pub returns-then-text-ne0 : goal.returns-then-text-ne0
+returns-then-text-ne0 c = record { value = bytes_odd _ c.if-text-ne0.true }
 
-pub loop-rest-preserved : goal.loop-rest-preserved
-loop-rest-preserved c =
+pub loop-pair-init : goal.loop-pair-init
+loop-pair-init c =
+    let it = c.into_iter-pair-iterator.ensures.into_iter_gives in
+    let rest = ap chunks_rest it ∙ c.chunks-pair-items.ensures.rest in
+    rw rest (bytes_left (left_start _ _ _ c.new-bytes.ensures.items) (ap chunks_size it ∙ c.chunks-pair-items.ensures.size) c.if-text-ne0.false)
+
+pub loop-pair-preserved : goal.loop-pair-preserved
+loop-pair-preserved c =
+    let p = c.loop-pair.invariant in
+    let step = c.in-Some.ensures.steps in
     bytes_left
-    (left_more _ _ _ _ c.loop-rest.invariant.left c.in-Some.byte _ _
-    (bytes_group _ _ _ (Some c.in-Some.byte) c.loop-rest-test.true c.split_at.ensures.front c.split_at.ensures.back (sym c.in-Some.ensures.value))
+    (left_more _ _ _ _ p.left c.in-Some-hex_number.byte _ _
+    (bytes_group _ c.in-Some.pair.now _ _ (Some c.in-Some-hex_number.byte) p.pairs p.even step.1.0 step.1.1 step.1.2 (sym c.in-Some-hex_number.ensures.value))
     (chosen _ _ _ _ c.push.ensures.items (ap is_ok c.in_ok-push.was)))
+    (step.0 ∙ p.pairs)
+    (omega (arith, p.even, p.pairs, step.1.1, step.1.2, ap length step.1.0, length-append c.in-Some.pair.now (chunks_rest c.next.new.self)))
 
 pub returns-in_default : goal.returns-in_default
-returns-in_default c = record {
-  value = left_none _ _ _ _ c.loop-rest.invariant.left (bytes_group _ _ _ None c.loop-rest-test.true c.split_at.ensures.front c.split_at.ensures.back (sym c.in_default.ensures.value));
-}
+returns-in_default c =
+    let p = c.loop-pair.invariant in
+    let step = c.in-Some.ensures.steps in
+    record {
+      value = left_none _ _ _ _ p.left (bytes_group _ c.in-Some.pair.now _ _ None p.pairs p.even step.1.0 step.1.1 step.1.2 (sym c.in_default.ensures.value));
+    }

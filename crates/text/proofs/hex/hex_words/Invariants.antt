@@ -1,9 +1,7 @@
-use Rattle.std.proofs.Common.{length, vec_items}
+use Rattle.std.proofs.Common.{vec_items}
+use Rattle.std.specs.Slice.Iter.{rchunks_rest, rchunks_size}
 use Rattle.text.proofs.Grouping.{WordsLeft}
 use Rattle.text.proofs.hex.hex_words.Given as goal
 
-abbrev pub invariant-loop-rest : goal.invariant-loop-rest
-invariant-loop-rest l = WordsLeft l.text (vec_items l.words) l.rest
-
-abbrev pub decreases-loop-rest : goal.decreases-loop-rest
-decreases-loop-rest l = length l.rest
+abbrev pub invariant-loop-group : goal.invariant-loop-group
+invariant-loop-group l = WordsLeft l.text (vec_items l.words) (rchunks_rest l.group-iterator) (rchunks_size l.group-iterator)
