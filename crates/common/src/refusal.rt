@@ -48,6 +48,7 @@ impl Refusal {
     pub fn number(self) -> u32
         ensures { result ≡ number self }
     {
+        // No discriminants, since variants that tell a place can't have them.
         match self {
             Refusal::WindowWidth => 1,
             Refusal::DrawWidth => 2,

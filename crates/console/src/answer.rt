@@ -45,6 +45,7 @@ impl Request {
     pub fn answer(&self, heap: Global) -> Result<Result<Recoding, Refusal>, AllocError>
         ensures { IfOk result (Answered (view self.now)) }
     {
+        // A refusal is an answer, and memory that fails is none: so no `?` here.
         match Sizes::new(self.window_width, self.draw_width, self.windows) {
             Ok(sizes) => {
                 let words = vec![in heap; 0i32; sizes.windows() as usize]?;

@@ -196,6 +196,7 @@ fn as_pairs<D: PairDevice>(told: Result<Told<D::Element>, Refused>) -> Result<To
 fn account_at<E: Copy>(account: Account<E>, handed: Pair) -> Account<Pair>
     ensures { result ≡ account_at account handed }
 {
+    // Field by field, since `..account` can't change the element's type.
     let Account {
         handed: _,
         tally,

@@ -30,6 +30,8 @@ impl Clock {
     pub fn new(modulus: u32) -> Result<Clock, Refusal>
         ensures { SetUp group_of tally_of (in_range modulus) (clock modulus) result }
     {
+        // The same two lines as for sums: a function for both would have to be told the arithmetic
+        // and its group, and be longer than they are.
         let modulus = Modulus::try_from(modulus)?;
         Ok(Counted::starting(ClockArithmetic { modulus }))
     }

@@ -6,8 +6,6 @@ ghost use Rattle.inputs.specs.Tables;
 use crate::rule::SignRule;
 use crate::sign::{Carry, Choice, Sign};
 use crate::sizes::Sizes;
-use std::error::Error;
-use std::fmt;
 
 /// One of the three rules, for callers that choose at run time.
 #[derive(Clone, Copy, PartialEq, Eq, Debug)]
@@ -58,14 +56,6 @@ impl TryFrom<u32> for WindowRule {
         }
     }
 }
-
-impl fmt::Display for UnknownRule {
-    fn fmt<W: fmt::Write>(&self, f: &mut fmt::Formatter<W>) -> fmt::Result {
-        write!(f, "no rule has the number {}", self.0)
-    }
-}
-
-impl Error for UnknownRule {}
 
 impl SignRule for WindowRule {
     ghost rule = { rule_of };

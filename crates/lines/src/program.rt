@@ -18,28 +18,34 @@ pub trait Program {
     // The text that answers a line, as it stands in the input, and how the line counts.
     ghost answers: { List ℕ → List ℕ → Kind → Type 0 };
 
+    // What was done, as the line says it that sums up.
+    ghost words: { List ℕ };
+
+    /// The words for what was done.
+    fn words(&self) -> &[u8]
+        ensures { result.now ≡ words };
+
     /// Appends the answer to a line to `out`. Answers `Err` only where memory fails.
     fn answer_line(&self, heap: Global, line: &[u8], out: &mut Vec<u8>) -> Result<Kind, AllocError>
         ensures { IfOk result (λ kind. (said : List ℕ) × (out.new.items ≡ out.old.items ++ said) × answers line.now said kind) };
 }
 
 /// Answers the lines of `input` on `output`, one after another, and then tells how many ended in
-/// each way, with the words for what was done. Answers `Err` only where memory, reading or writing
+/// each way, with the program's words for what was done. Answers `Err` only where memory, reading or writing
 /// fails.
 pub fn answer_all<P: Program, R: Read, W: Write>(
     program: &P,
     heap: Global,
-    words: &[u8],
     input: &mut R,
     output: &mut W,
 ) -> io::Result<()>
-    ensures { OnOk result (IfSome (R.remaining input.old) (λ text. (said : List ℕ) × Appends (W.contents output.old) (W.contents output.new) said × Printed P.answers words.now text said)) }
+    ensures { OnOk result (IfSome (R.remaining input.old) (λ text. (said : List ℕ) × Appends (W.contents output.old) (W.contents output.new) said × Printed P.answers P.words text said)) }
 {
     let mut text = Vec::new(heap);
     input.read_to_end(&mut text)?;
     let mut out = Vec::new(heap);
     let summary = answer_lines(program, heap, text.as_slice(), &mut out, output)?;
-    summary.write(words, &mut out)?;
+    summary.write(program.words(), &mut out)?;
     output.write_all(out.as_slice())
 }
 

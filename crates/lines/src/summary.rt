@@ -14,7 +14,7 @@ pub enum Kind {
 }
 
 /// How many lines ended in each way. The counts stop at the greatest number that they hold.
-#[derive(Clone, Copy)]
+#[derive(Clone, Copy, Default)]
 pub struct Summary {
     pub done: u64,
     pub refused: u64,
@@ -28,11 +28,7 @@ impl Summary {
         ensures refused { result.refused ≡ 0 }
         ensures unreadable { result.unreadable ≡ 0 }
     {
-        Summary {
-            done: 0,
-            refused: 0,
-            unreadable: 0,
-        }
+        Summary::default()
     }
 
     /// One line more.

@@ -28,29 +28,12 @@ impl<'a, E: Copy> Table<'a, E> {
         ensures same { D.GroupDevice.group device.new ≡ D.GroupDevice.group device.old }
         ensures counted { D.GroupDevice.tally device.new ≡ many_additions (layout.top - 1) (many_additions layout.down (many_additions layout.up (many_rounds bits 1 (many_doublings bits (D.GroupDevice.tally device.old))))) }
     {
-        let (unit_a, s_a) = begin(device, base, s, bits);
+        let unit_a = double_times(device, base, bits);
+        let s_a = climb(device, base, s, bits);
         let small = layout.small();
         fill_windows(device, &mut self.cells[0..small], layout.down, unit_a, s_a);
         fill_small(device, self.cells, small, base);
     }
-}
-
-// The base by the unit, and by the draw.
-fn begin<D: GroupDevice>(
-    device: &mut D,
-    base: D::Element,
-    s: u32,
-    bits: u32,
-) -> (D::Element, D::Element)
-    requires { bits ≤ 32 }
-    ensures unit { result.0 ≡ doublings (D.GroupDevice.group device.old) bits base }
-    ensures draw { result.1 ≡ climbed (D.GroupDevice.group device.old) base bits s }
-    ensures same { D.GroupDevice.group device.new ≡ D.GroupDevice.group device.old }
-    ensures counted { D.GroupDevice.tally device.new ≡ many_rounds bits 1 (many_doublings bits (D.GroupDevice.tally device.old)) }
-{
-    let unit_a = double_times(device, base, bits);
-    let s_a = climb(device, base, s, bits);
-    (unit_a, s_a)
 }
 
 // The entries for the digits: the middle one, those above it, those below it.

@@ -7,6 +7,9 @@ ghost use Rattle.steps.specs.Work.{many_doublings, many_rounds};
 
 use groups::device::GroupDevice;
 
+// What changes a device says in two clauses that its group stays (`same`) and what it counts
+// (`counted`): one fact a clause, since a name for both would take the same arguments again.
+
 // So many doublings of `a`.
 pub(crate) fn double_times<D: GroupDevice>(device: &mut D, a: D::Element, count: u32) -> D::Element
     ensures value { result ≡ doublings (D.GroupDevice.group device.old) count a }

@@ -14,7 +14,6 @@ use crate::power::{divided, scaled};
 use common::refusal::Refusal;
 use inputs::key::{check_key, top_bits, window_bits};
 use inputs::rule::SignRule;
-use inputs::sign::Sign;
 use inputs::sizes::Sizes;
 
 /// Whether the sizes take the key and so many words for its digits. Refuses a key (4, 5), then too

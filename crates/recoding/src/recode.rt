@@ -77,6 +77,7 @@ fn recode_windows<R: SignRule>(
     ensures correction { result ≡ (recoding (R.SignRule.rule rule.now) sizes s (half key.now)).left }
 {
     let mut left = top_bits(sizes, key) as i64;
+    // By index, since window i also adds its carry to the word at i + 1.
     for i in (0..sizes.windows()).rev() {
         let bits = window_bits(sizes, key, i);
         let window = cut(rule, sizes, join(sizes, left, bits), s);

@@ -16,19 +16,13 @@ mod examples {
 
     // The sizes of the worked runs.
     fn small() -> Result<Sizes, Fail> {
-        match Sizes::new(3, 6, 3) {
-            Ok(sizes) => Ok(sizes),
-            Err(_) => Err(Fail::new("sizes refused")),
-        }
+        Sizes::new(3, 6, 3).map_err(|_| Fail::new("sizes refused"))
     }
 
     // The first draw of some bytes.
     fn drawn(rule: WindowRule, sizes: Sizes, bytes: &[u8]) -> Result<Draw, Fail> {
         let mut stream = Stream::new(bytes);
-        match Draw::from_stream(&rule, sizes, &mut stream) {
-            Ok(draw) => Ok(draw),
-            Err(_) => Err(Fail::new("no draw")),
-        }
+        Draw::from_stream(&rule, sizes, &mut stream).map_err(|_| Fail::new("no draw"))
     }
 
     // Recodes 25724, whose half is 12862, by the draw 38, and compares words and correction.
@@ -42,27 +36,22 @@ mod examples {
         let draw = drawn(rule, sizes, &[38])?;
         let key = [25724u32];
         let mut words = [7i32; 4];
-        match recode(&rule, sizes, &key, draw, &mut words) {
-            Ok(coded) => {
-                let c = coded.correction();
-                coded.end();
-                assert_eq!(rt; c, correction);
-                assert_eq!(rt; words[0], want[0]);
-                assert_eq!(rt; words[1], want[1]);
-                assert_eq!(rt; words[2], want[2]);
-                assert_eq!(rt; words[3], 7, "a word past the digits is not touched");
-                let verdict = check_coding(&rule, sizes, &key, 38, c, &words);
-                assert!(rt; verdict.unwrap_or(false), "the check accepts it");
-                let other = check_coding(&rule, sizes, &key, 37, c, &words);
-                assert!(rt; !other.unwrap_or(true), "another draw is declined");
-                Ok(())
-            }
-            Err(back) => {
-                let (_, draw) = back;
-                draw.end();
-                Err(Fail::new("refused"))
-            }
-        }
+        let coded = recode(&rule, sizes, &key, draw, &mut words).map_err(|(_, draw)| {
+            draw.end();
+            Fail::new("refused")
+        })?;
+        let c = coded.correction();
+        coded.end();
+        assert_eq!(rt; c, correction);
+        assert_eq!(rt; words[0], want[0]);
+        assert_eq!(rt; words[1], want[1]);
+        assert_eq!(rt; words[2], want[2]);
+        assert_eq!(rt; words[3], 7, "a word past the digits is not touched");
+        let verdict = check_coding(&rule, sizes, &key, 38, c, &words);
+        assert!(rt; verdict.unwrap_or(false), "the check accepts it");
+        let other = check_coding(&rule, sizes, &key, 37, c, &words);
+        assert!(rt; !other.unwrap_or(true), "another draw is declined");
+        Ok(())
     }
 
     #[test]
@@ -77,10 +66,10 @@ mod examples {
         let sizes = small()?;
         let bytes = [0x40, 0x80, 0x26, 0x11];
         let mut stream = Stream::new(&bytes);
-        match Draw::from_stream(&WindowRule::Nonzero, sizes, &mut stream) {
-            Ok(draw) => assert_eq!(rt; draw.end(), 38),
-            Err(_) => return Err(Fail::new("no draw")),
-        }
+        let draw = Draw::from_stream(&WindowRule::Nonzero, sizes, &mut stream).map_err(
+            |_| Fail::new("no draw"),
+        )?;
+        assert_eq!(rt; draw.end(), 38);
         assert_eq!(rt; stream.mark(), 3);
         assert_eq!(rt; stream.remaining(), 1);
         Ok(())
@@ -114,8 +103,7 @@ mod examples {
                 coded.end();
                 Err(Fail::new("recoded"))
             }
-            Err(back) => {
-                let (refusal, draw) = back;
+            Err((refusal, draw)) => {
                 let width = draw.width();
                 let value = draw.end();
                 assert_eq!(rt; width, 6);

@@ -18,17 +18,11 @@ mod examples {
 
     // Sizes that the tests take for granted.
     fn sized(k: u32, b: u32, m: u32) -> Result<Sizes, Fail> {
-        match Sizes::new(k, b, m) {
-            Ok(sizes) => Ok(sizes),
-            Err(_) => Err(Fail::new("sizes refused")),
-        }
+        Sizes::new(k, b, m).map_err(|_| Fail::new("sizes refused"))
     }
 
     fn the_curve() -> Result<Curve, Fail> {
-        match Curve::new(11) {
-            Ok(curve) => Ok(curve),
-            Err(_) => Err(Fail::new("curve refused")),
-        }
+        Curve::new(11).map_err(|_| Fail::new("curve refused"))
     }
 
     // A task with a key of one word, three bytes of draws, and enough cells and words.

@@ -3,7 +3,7 @@ use Rattle.lines.specs.declared.summary.Kind.{Kind}
 use Rattle.lines.specs.Lines.{trimmed}
 use Rattle.exchange_lines.specs.Lines.{LineAnswered, Said, answer_text}
 use Rattle.exchange_lines.specs.Requests.{Asked, requested}
-use Rattle.agree.proofs.AgreeProgram.answer_line.Goals as goal
+use Rattle.exchange_lines.proofs.program.AgreeProgram.answer_line.Goals as goal
 
 -- what a line adds, whatever stands before it
 added : (o : Option Asked) (kind : Kind) (before after : List ℕ) → Said o kind before after → (said : List ℕ) × (after ≡ before ++ said) × Said o kind [] said
