@@ -1,5 +1,5 @@
 //! The lines that `recode` prints.
-ghost use Rattle.std.specs.Prelude.{◌≡◌, ◌++◌, codes, IfOk, string_bytes};
+ghost use Rattle.std.specs.Prelude.{◌≡◌, ◌++◌, codes, IfOk, OnOk};
 ghost use Rattle.console.specs.Lines.{LineAnswered, answer_text, kind_of};
 
 use crate::answer::Recoding;
@@ -7,6 +7,7 @@ use crate::request::Request;
 use common::refusal::Refusal;
 use lines::line::trim;
 use lines::summary::Kind;
+use lines::written::write_line;
 use std::alloc::{AllocError, Global};
 
 /// Answers a line and appends what it says to `out`, with a line feed. Answers `Err` only where
@@ -19,8 +20,7 @@ pub fn answer_line(heap: Global, line: &[u8], out: &mut Vec<u8>) -> Result<Kind,
         return Ok(Kind::Unreadable);
     };
     let answer = request.answer(heap)?;
-    let text = line_of(heap, &answer)?;
-    out.extend_from_slice(text.as_bytes())?;
+    write_answer(out, &answer)?;
     Ok(kind_of(&answer))
 }
 
@@ -34,12 +34,12 @@ fn kind_of(answer: &Result<Recoding, Refusal>) -> Kind
     }
 }
 
-// The line of an answer.
-fn line_of(heap: Global, answer: &Result<Recoding, Refusal>) -> Result<String, AllocError>
-    ensures { IfOk result (λ s. string_bytes s ≡ answer_text answer.now ++ codes "\n") }
+// Appends the line of an answer.
+fn write_answer(out: &mut Vec<u8>, answer: &Result<Recoding, Refusal>) -> Result<(), AllocError>
+    ensures { OnOk result (out.new.items ≡ out.old.items ++ answer_text answer.now ++ codes "\n") }
 {
     match answer {
-        Ok(recoding) => format!(in heap; "{recoding}\n"),
-        Err(refusal) => format!(in heap; "{refusal}\n"),
+        Ok(recoding) => write_line(out, recoding),
+        Err(refusal) => write_line(out, refusal),
     }
 }

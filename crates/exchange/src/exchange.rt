@@ -119,7 +119,8 @@ fn task<E: Copy>(
 fn fill<E: Copy>(heap: Global, element: E, count: usize) -> Result<Vec<E>, AllocError>
     ensures { IfOk result (λ v. length v.items ≡ count) }
 {
-    Ok(vec![in heap; element; count]?)
+    // Not `vec!`, which clones: that a clone can't fail is not known of every element that is copied.
+    (0..count).map(|_| element).collect(heap)
 }
 
 // Makes one multiplication of each side. Its list of one task is a vector: a slice over a single

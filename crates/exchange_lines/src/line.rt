@@ -1,5 +1,5 @@
 //! The lines that `agree` prints.
-ghost use Rattle.std.specs.Prelude.{◌≡◌, ◌++◌, IfOk, Some, codes, string_bytes};
+ghost use Rattle.std.specs.Prelude.{◌≡◌, ◌++◌, IfOk, OnOk, Some, codes};
 ghost use Rattle.exchange_lines.specs.Lines.{LineAnswered, account_text, answer_text, kind_of, party_text, refused_text, told_text};
 
 use crate::answer::{Account, Told};
@@ -8,6 +8,7 @@ use elements::element::Pair;
 use exchange::exchange::{Both, Party, Refused};
 use lines::line::trim;
 use lines::summary::Kind;
+use lines::written::write_line;
 use std::alloc::{AllocError, Global};
 use std::fmt;
 
@@ -21,8 +22,7 @@ pub fn answer_line(heap: Global, line: &[u8], out: &mut Vec<u8>) -> Result<Kind,
         return Ok(Kind::Unreadable);
     };
     let answer = request.answer(heap)?;
-    let text = line_of(heap, answer)?;
-    out.extend_from_slice(text.as_bytes())?;
+    write_answer(out, answer)?;
     Ok(kind_of(answer))
 }
 
@@ -36,16 +36,13 @@ fn kind_of(answer: Result<Told<Pair>, Refused>) -> Kind
     }
 }
 
-// The line of an answer.
-fn line_of(heap: Global, answer: Result<Told<Pair>, Refused>) -> Result<String, AllocError>
-    ensures { IfOk result (λ s. string_bytes s ≡ answer_text answer ++ codes "\n") }
+// Appends the line of an answer.
+fn write_answer(out: &mut Vec<u8>, answer: Result<Told<Pair>, Refused>) -> Result<(), AllocError>
+    ensures { OnOk result (out.new.items ≡ out.old.items ++ answer_text answer ++ codes "\n") }
 {
     match answer {
-        Ok(told) => format!(in heap; "{told}\n"),
-        Err(refused) => {
-            let refused = Shown(refused);
-            format!(in heap; "{refused}\n")
-        }
+        Ok(told) => write_line(out, told),
+        Err(refused) => write_line(out, Shown(refused)),
     }
 }
 

@@ -26,26 +26,27 @@ fourth a = ((a * a) % 11 * ((a * a) % 11)) % 11
 abbrev by_squares : ℕ → ℕ
 by_squares a = ((fourth a * fourth a) % 11 * a) % 11
 
-squares_test : below (λ a. eqb (by_squares a) (inverse a)) 11 ≡ true
+squares_test : below (λ a. eqb (by_squares (a % 11)) (inverse a)) 22 ≡ true
 unfolding below inverse
 squares_test = refl
 
-pub ninth_power : (a : ℕ) → a < 11 → by_squares a ≡ inverse a
-ninth_power a h = eqb-true _ _ (below_at (λ a. eqb (by_squares a) (inverse a)) 11 squares_test a h)
+-- also of the double of a reduced number, as it stands below a tangent's slope
+pub ninth_power : (a : ℕ) → a < 22 → by_squares (a % 11) ≡ inverse a
+ninth_power a h = eqb-true _ _ (below_at (λ a. eqb (by_squares (a % 11)) (inverse a)) 22 squares_test a h)
 
--- nothing is asked of 0
+-- nothing is asked where a is 0 modulo 11
 inverts_at : ℕ → Bool
-inverts_at a = cond (ltb 0 a) (eqb ((a * inverse a) % 11) 1) true
+inverts_at a = cond (ltb 0 (a % 11)) (eqb ((a * inverse a) % 11) 1) true
 
-inverts_test : below inverts_at 11 ≡ true
+inverts_test : below inverts_at 22 ≡ true
 unfolding below inverse inverts_at
 inverts_test = refl
 
-pub inverts : (a : ℕ) → a < 11 → 0 < a → (a * inverse a) % 11 ≡ 1
+pub inverts : (a : ℕ) → a < 22 → 0 < a % 11 → (a * inverse a) % 11 ≡ 1
 unfolding inverts_at
 inverts a h some =
-    let passed = below_at inverts_at 11 inverts_test a h in
-    eqb-true _ 1 (rw (cond-true (ltb 0 a) (eqb ((a * inverse a) % 11) 1) true (lt-ltb 0 a some)) at passed)
+    let passed = below_at inverts_at 22 inverts_test a h in
+    eqb-true _ 1 (rw (cond-true (ltb 0 (a % 11)) (eqb ((a * inverse a) % 11) 1) true (lt-ltb 0 (a % 11) some)) at passed)
 
 -- the slope of a tangent, each step reduced
 abbrev slope_by_steps : (x y : ℕ) → ℕ

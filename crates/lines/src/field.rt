@@ -13,7 +13,9 @@ pub fn number_then<'a>(text: &'a [u8]) -> Option<(u32, &'a [u8])>
     ensures { option_map paired result ≡ number_then text.now }
 {
     let (front, rest) = cut(text, b' ');
-    Some((decimal(front)?, rest?))
+    // The space first: without it the number need not be read.
+    let rest = rest?;
+    Some((decimal(front)?, rest))
 }
 
 /// The words of a key: one or more hexadecimal digits. Answers `Err` only where memory fails.

@@ -5,3 +5,4 @@ pub mod field;
 pub mod line;
 pub mod program;
 pub mod summary;
+pub mod written;

@@ -7,6 +7,5 @@ pub mod Reading
 pub mod Agreeing
 pub mod Telling
 pub mod Lawfully
-pub mod Places
 pub mod Taken
 pub mod Answering

@@ -140,3 +140,13 @@ pub correction_small_lem : (k b : ℕ) → 1 ≤ k → (c : ℤ) → SmallAll (2
 correction_small_lem k b one (pos x) = low_small k (correction_count k b) x 0 one (omega arith)
 correction_small_lem k b one (negsuc x) =
     negated_small (2 ^ (k - 1)) (low_windows k (correction_count k b) (suc x) 0) (low_small k (correction_count k b) (suc x) 0 one (omega arith))
+
+low_length : (k n x gained : ℕ) → length (low_windows k n x gained) ≡ n
+low_length k zero x gained = refl
+low_length k (suc n) x gained = ap suc (low_length k n (x / 2 ^ k) (gain k (x % 2 ^ k + gained)))
+
+-- a correction has as many windows as the widths say
+pub correction_length : (k b : ℕ) (c : ℤ) → length (correction_windows k b c) ≡ correction_count k b
+correction_length k b (pos x) = low_length k (correction_count k b) x 0
+correction_length k b (negsuc x) =
+    length-map (low_windows k (correction_count k b) (suc x) 0) neg_ℤ ∙ low_length k (correction_count k b) (suc x) 0

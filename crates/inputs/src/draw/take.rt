@@ -61,7 +61,13 @@ fn lowest_first(bytes: &[u8]) -> u32
     requires { length bytes.now ≤ 4 }
     ensures { result ≡ lowest_first bytes.now }
 {
-    let mut word = [0; 4];
-    word[..bytes.len()].copy_from_slice(bytes);
+    // By length: a copy whose length is known only at run time costs more than all the rest.
+    let word = match *bytes {
+        [a] => [a, 0, 0, 0],
+        [a, b] => [a, b, 0, 0],
+        [a, b, c] => [a, b, c, 0],
+        [a, b, c, d] => [a, b, c, d],
+        _ => [0; 4],
+    };
     u32::from_le_bytes(word)
 }

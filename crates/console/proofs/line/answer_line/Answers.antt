@@ -1,9 +1,8 @@
-use Rattle.std.proofs.Common.{◌≡◌, ℕ, List, ◌++◌, vec_items, codes, Option, sym, ap, ◌∙◌, subst}
-use Rattle.std.proofs.lemmas.List.{append_assoc}
+use Rattle.std.proofs.Common.{◌≡◌, ℕ, List, vec_items, Option, sym, ap, ◌∙◌, subst}
 use Rattle.std.specs.Option.{option_map}
 use Rattle.lines.specs.Lines.{trimmed}
 use Rattle.console.specs.declared.request.Request.{Request}
-use Rattle.console.specs.Lines.{Said, answer_text}
+use Rattle.console.specs.Lines.{Said}
 use Rattle.console.specs.Requests.{Asked, view, requested}
 use Rattle.console.proofs.line.answer_line.Goals as goal
 
@@ -14,6 +13,5 @@ asks line trim o e r = ap requested (sym e) ∙ sym r
 pub returns : goal.returns
 returns c =
     let e = asks c.args.line.now c.trim.result.now c.in_ok-request.field-0 c.trim.ensures c.in_ok-request.ensures ∙ ap (option_map view) c.in-Some.is in
-    let t = c.in_ok-extend_from_slice-2.ensures.items ∙ ap (λ (l : List ℕ). vec_items c.args.out.now ++ l) (c.as_bytes.ensures.value ∙ c.in_ok-text.ensures) ∙ sym (append_assoc (vec_items c.args.out.now) (answer_text c.in_ok-answer.answer) (codes "\n")) in
-    subst (λ (o : Option Asked). Said o c.kind_of.result (vec_items c.args.out.now) (vec_items c.extend_from_slice-2.new.self)) (sym e)
-    (c.in_ok-answer.answer, c.in_ok-answer.ensures, c.kind_of.ensures, t)
+    subst (λ (o : Option Asked). Said o c.kind_of.result (vec_items c.args.out.now) (vec_items c.write_answer.new.out)) (sym e)
+    (c.in_ok-answer.answer, c.in_ok-answer.ensures, c.kind_of.ensures, c.in_ok-write_answer.ensures)

@@ -1,4 +1,5 @@
-use Rattle.std.proofs.Common.{◌≡◌, ℕ, ◌+◌, map, length, ap, ◌∙◌, ap₂, arith}
+use Rattle.std.proofs.Common.{◌≡◌, ℕ, ◌+◌, [], map, length, ap, ◌∙◌, ap₂, sym, arith}
+use Rattle.std.proofs.lemmas.List.{append-nil}
 use Rattle.inputs.specs.Rules.{Rule}
 use Rattle.recoding.specs.Digits.{decoded}
 use Rattle.steps.specs.Operations.{climbed, doublings}
@@ -34,5 +35,5 @@ returns-clause-value g c =
     let cells_are : c.build.new.self.cells.now ≡ F z.b s = c.build.ensures.cells ∙ ap₂ F c.draw_width.ensures c.draw_value-s.ensures in
     c.evaluate-value.ensures.value
     ∙ ap (λ h. evaluated h c.build.new.self.cells.now down (down + up + 1) z.k z.b base c.args.words.now c.args.coded.correction c.args.bit) c.build.ensures.same
-    ∙ ap (λ cs. evaluated G cs down (down + up + 1) z.k z.b base c.args.words.now c.args.coded.correction c.args.bit) cells_are
-    ∙ evaluated_is G down up top z.k z.b s base (omega (arith, z.k_least)) l.top (R.lo z.k z.b) (R.hi z.k z.b) limits.0 limits.1 c.args.words.now c.requires.digits c.args.coded.correction c.args.bit
+    ∙ ap (λ cs. evaluated G cs down (down + up + 1) z.k z.b base c.args.words.now c.args.coded.correction c.args.bit) (cells_are ∙ sym (append-nil (F z.b s)))
+    ∙ evaluated_is G [] down up top z.k z.b s base (omega (arith, z.k_least)) l.top (R.lo z.k z.b) (R.hi z.k z.b) limits.0 limits.1 c.args.words.now c.requires.digits c.args.coded.correction c.args.bit
