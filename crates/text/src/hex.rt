@@ -27,7 +27,7 @@ pub fn hex_bytes(heap: Global, text: &[u8]) -> Result<Option<Vec<u8>>, AllocErro
         return Ok(None);
     }
     let mut bytes = Vec::new(heap);
-    for pair in text.chunks(2) {
+    for pair in text.chunks_exact(2) {
         // Not `?`, which passes up the error of memory alone.
         let Some(byte) = hex_number(pair) else {
             return Ok(None);
